@@ -1,0 +1,6 @@
+-- The lemmas, by the idea that they serve.
+pub mod Tests
+pub mod Going
+pub mod Taking
+pub mod Orders
+pub mod Ranks
