@@ -4,3 +4,6 @@ pub mod Going
 pub mod Taking
 pub mod Orders
 pub mod Ranks
+pub mod Fleets
+pub mod Changes
+pub mod Grants

@@ -10,11 +10,11 @@ use Rattle.std.specs.Orderings.{Decides}
 use Rattle.std.proofs.shelf.Tests.{cases-eq, cases-lt, both-ways, and-parts, lt-ltb, or-right}
 use Rattle.std.proofs.shelf.Ways.{tells}
 use Rattle.agents.specs.Numbers.{among, all-to, nobody-left}
-use Rattle.agents.specs.Going.{CanGo, nobody, clear, at-once, take-out, left-over, Others-go, None-free}
+use Rattle.agents.specs.Going.{CanGo, nobody, clear, take-out, left-over, Others-go, None-free}
 use Rattle.agents.specs.Orders.{Runs, none, first, try}
 use Rattle.agents.proofs.Tests.{among-here, among-middle, among-all-to, clear-tells, clear-from, same-test}
 use Rattle.agents.proofs.Going.{below}
-use Rattle.agents.proofs.Taking.{set-next, set-without, set-stuck, take-out-is, left-over-all}
+use Rattle.agents.proofs.Taking.{set-next, set-without, set-stuck, Stays, Loses, take-out-is, left-over-all}
 
 -- who is clear of a list is clear of a part of it
 clear-less : (w : ℕ → ℕ → Bool) (i : ℕ) (before after : List ℕ) → clear w i (before ++ (i ∷ after)) ≡ true → clear w i (before ++ after) ≡ true
@@ -29,7 +29,7 @@ runs-fewer {w} w′ f (first i before after c r) = first i before after (clear-f
 -- if the list can go in some order and all others can go, everybody can
 pub runs-go : (n : ℕ) {w : ℕ → ℕ → Bool} {is : List ℕ} → Runs w is → Others-go n w nobody (λ i. among i is) → (i : ℕ) → i < n → CanGo n w nobody i
 unfolding among
-runs-go n none o i l = o i l refl
+runs-go n none o = λ i l. o i l refl
 runs-go n {w} (first i before after c r) o =
     let is = before ++ (i ∷ after) in
     let js = before ++ after in
@@ -48,8 +48,8 @@ tries-run zero w (i ∷ is) e = absurd (both-ways false refl e)
 tries-run (suc m) w is e =
     let next : (js : List ℕ) → try m w js ≡ true → Runs w js = tries-run m w in
     ⊎-elim
-      (λ (t : (take-out w nobody is is ≡ is) × ((i : ℕ) → among i is ≡ true → at-once w nobody is i ≡ false)). next is (subst (λ js. try m w js ≡ true) (t .0) e))
-      (λ (t : (i : ℕ) × (before : List ℕ) × (after : List ℕ) × (is ≡ before ++ (i ∷ after)) × (take-out w nobody is is ≡ before ++ after) × (at-once w nobody is i ≡ true)).
+      (λ (t : Stays w nobody is is). next is (subst (λ js. try m w js ≡ true) (t .0) e))
+      (λ (t : Loses w nobody is is).
         let (i, before, after, e₁, e₂, a) = t in
         subst (Runs w) (sym e₁) (first i before after (clear-less w i before after (subst (λ js. clear w i js ≡ true) e₁ a)) (next (before ++ after) (subst (λ js. try m w js ≡ true) e₂ e))))
       (take-out-is w nobody is is)
@@ -57,7 +57,7 @@ tries-run (suc m) w is e =
 module _ (n : ℕ) (w : ℕ → ℕ → Bool) where
   -- if everybody can go, trying leaves nobody
   pub go-tries : ((i : ℕ) → i < n → CanGo n w nobody i) → try n w (all-to n) ≡ true
-  unfolding try
+  unfolding try nobody-left
   go-tries f = empty (left-over n w nobody (all-to n)) (λ i m. both-ways _ (set-stuck n w nobody _ (left-over-all n w nobody .2) (f i (left-over-all n w nobody .0 i m))) m)
     where
       empty : (is : List ℕ) → ((i : ℕ) → among i is ≡ true → ⊥) → nobody-left is ≡ true

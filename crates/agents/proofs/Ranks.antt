@@ -9,10 +9,10 @@ use lib.Dec.{eqb, ltb}
 use Rattle.std.proofs.shelf.Tests.{cases-bool, cases-eq, both-ways, and-parts}
 use Rattle.std.proofs.shelf.Ways.{tells}
 use Rattle.agents.specs.Numbers.{among, all-to}
-use Rattle.agents.specs.Going.{CanGo, goes, clear, at-once, take-out, left-over}
+use Rattle.agents.specs.Going.{CanGo, goes, clear, take-out, left-over}
 use Rattle.agents.proofs.Tests.{among-middle, among-all-to, clear-tells, false-from}
 use Rattle.agents.proofs.Going.{below}
-use Rattle.agents.proofs.Taking.{set-stuck, take-out-is, left-over-all}
+use Rattle.agents.proofs.Taking.{set-stuck, Stays, Loses, take-out-is, left-over-all}
 
 -- whoever is in In can go, if nobody of In is closed and each blocker is in In with a smaller rank
 pub ranked-go : (n : ℕ) (w : ℕ → ℕ → Bool) (k : ℕ → Bool) (rank : ℕ → ℕ) (In : ℕ → Type 0) →
@@ -46,8 +46,8 @@ rounds-fall (suc m) w k is i j a e ne v =
   where
     last : among i (take-out w k is is) ≡ false → clear w i is ≡ true
     last a′ = ⊎-elim
-        (λ (t : (take-out w k is is ≡ is) × ((i : ℕ) → among i is ≡ true → at-once w k is i ≡ false)). absurd (both-ways _ a′ (ap (among i) (t .0) ∙ a)))
-        (λ (t : (x : ℕ) × (before : List ℕ) × (after : List ℕ) × (is ≡ before ++ (x ∷ after)) × (take-out w k is is ≡ before ++ after) × (at-once w k is x ≡ true)).
+        (λ (t : Stays w k is is). absurd (both-ways _ a′ (ap (among i) (t .0) ∙ a)))
+        (λ (t : Loses w k is is).
           let (x, before, after, e₁, e₂, c) = t in
           let mid : among i is ≡ (eqb i x || among i (before ++ after)) = ap (among i) e₁ ∙ among-middle i x before after in
           let gone : among i (before ++ after) ≡ false = sym (ap (among i) e₂) ∙ a′ in

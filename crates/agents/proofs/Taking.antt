@@ -34,18 +34,24 @@ module _ (n : ℕ) (w : ℕ → ℕ → Bool) (k : ℕ → Bool) where
         (λ (t : (j : ℕ) × (j < n) × (i ≡ j → ⊥) × (In j ≡ true) × (w i j ≡ true)). both-ways (In (t .0)) (rest (t .0) (t .1) (t .2) (t .4)) (t .3))
         (s i l h))
 
--- either nobody of the list can go at once and it stays as it is, or it loses one that can
-pub take-out-is : (w : ℕ → ℕ → Bool) (k : ℕ → Bool) (all left : List ℕ) →
-    ((take-out w k all left ≡ left) × ((i : ℕ) → among i left ≡ true → at-once w k all i ≡ false))
-    ⊎ ((i : ℕ) × (before : List ℕ) × (after : List ℕ) × (left ≡ before ++ (i ∷ after)) × (take-out w k all left ≡ before ++ after) × (at-once w k all i ≡ true))
+-- nobody of the list can go at once, and it stays as it is
+abbrev pub Stays : (ℕ → ℕ → Bool) → (ℕ → Bool) → (all left : List ℕ) → Type 0
+Stays w k all left = (take-out w k all left ≡ left) × ((i : ℕ) → among i left ≡ true → at-once w k all i ≡ false)
+
+-- the list loses one that can go at once
+abbrev pub Loses : (ℕ → ℕ → Bool) → (ℕ → Bool) → (all left : List ℕ) → Type 0
+Loses w k all left =
+    (i : ℕ) × (before : List ℕ) × (after : List ℕ) × (left ≡ before ++ (i ∷ after)) × (take-out w k all left ≡ before ++ after) × (at-once w k all i ≡ true)
+
+pub take-out-is : (w : ℕ → ℕ → Bool) (k : ℕ → Bool) (all left : List ℕ) → Stays w k all left ⊎ Loses w k all left
 unfolding take-out among
 take-out-is w k all [] = inl (refl, λ i e. absurd (both-ways false refl e))
 take-out-is w k all (x ∷ xs) = ⊎-elim
     (λ e. inr (x, [], xs, refl, cc, e))
     (λ e. ⊎-elim
-      (λ (t : (take-out w k all xs ≡ xs) × ((i : ℕ) → among i xs ≡ true → at-once w k all i ≡ false)).
+      (λ (t : Stays w k all xs).
         inl (cc (e, t .0), λ i m. ⊎-elim (λ (q : i ≡ x). subst (λ y. at-once w k all y ≡ false) (sym q) e) (λ ne. t .1 i (grind (arith, tells))) (cases-eq i x)))
-      (λ (t : (i : ℕ) × (before : List ℕ) × (after : List ℕ) × (xs ≡ before ++ (i ∷ after)) × (take-out w k all xs ≡ before ++ after) × (at-once w k all i ≡ true)).
+      (λ (t : Loses w k all xs).
         inr (t .0, x ∷ t .1, t .2, ap (λ l. x ∷ l) (t .3), cc (e, t .4), t .5))
       (take-out-is w k all xs))
     (cases-bool (at-once w k all x))
@@ -73,13 +79,13 @@ module _ (n : ℕ) (w : ℕ → ℕ → Bool) (k : ℕ → Bool) where
   left-over-rest (suc m) is l b o =
       let next : (js : List ℕ) → length js ≤ m → ((i : ℕ) → among i js ≡ true → i < n) → Others-go n w k (λ i. among i js) → Rest (left-over m w k js) = left-over-rest m in
       ⊎-elim
-        (λ (t : (take-out w k is is ≡ is) × ((i : ℕ) → among i is ≡ true → at-once w k is i ≡ false)).
+        (λ (t : Stays w k is is).
           subst Rest (sym (ap (left-over m w k) (t .0) ∙ stays m w k is (t .0)))
             (b, o, λ i l h. ⊎-elim
               (λ e. inl (not-false (k i) e))
               (λ e. let (j, ne, a, v) = clear-not w i is e in inr (j, b j a, ne, a, v))
               (and-cases _ _ (t .1 i h))))
-        (λ (t : (i : ℕ) × (before : List ℕ) × (after : List ℕ) × (is ≡ before ++ (i ∷ after)) × (take-out w k is is ≡ before ++ after) × (at-once w k is i ≡ true)).
+        (λ (t : Loses w k is is).
           let (i, before, after, e, e′, a) = t in
           let js = before ++ after in
           let mid : (j : ℕ) → among j is ≡ (eqb j i || among j js) = λ j. ap (among j) e ∙ among-middle j i before after in

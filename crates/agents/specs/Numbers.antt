@@ -1,4 +1,5 @@
 -- Small tests on numbers and lists of numbers that the other definitions use.
+use mathlib.Core.Path.{_≡_}
 use mathlib.Core.Bool.{Bool, true, false, _&&_, _||_}
 use mathlib.Core.List.{List, [], _∷_}
 use Prim.Native.Nat.{ℕ, zero, suc}
@@ -13,6 +14,10 @@ among x (y ∷ ys) = eqb x y || among x ys
 unfoldable pub meets : List ℕ → List ℕ → Bool
 meets [] ys = false
 meets (x ∷ xs) ys = among x ys || meets xs ys
+
+-- each of the first list is one of the second
+abbrev pub Within : List ℕ → List ℕ → Type 0
+Within xs ys = (c : ℕ) → among c xs ≡ true → among c ys ≡ true
 
 -- the test holds of every number below n
 unfoldable pub all-below : ℕ → (ℕ → Bool) → Bool

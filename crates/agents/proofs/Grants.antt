@@ -1,0 +1,1 @@
+-- The grant rule: the test and its parts, that somebody is always granted what it needs, and when the rule asks nothing more.
