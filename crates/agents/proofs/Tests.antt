@@ -7,7 +7,7 @@ use Prim.Native.Nat.{ℕ, zero, suc, _<_}
 use native.Mathlib.Omega.{arith}
 use lib.Dec.{eqb, ltb}
 use Rattle.std.specs.Orderings.{Decides}
-use Rattle.std.proofs.shelf.Tests.{cases-eq, cases-bool, eqb-true, eq-eqb, or-cases, or-left, or-right, or-parts, and-parts, and-cases, and-from, both-ways}
+use Rattle.std.proofs.shelf.Tests.{cases-eq, cases-bool, eqb-true, eq-eqb, or-cases, or-left, or-right, or-parts, and-parts, and-cases, and-from, both-ways, not-from-false}
 use Rattle.std.proofs.shelf.Ways.{tells, same-from-decides, decides-below-and}
 use Rattle.agents.specs.Numbers.{among, meets, all-below, all-to}
 use Rattle.agents.specs.Going.{clear}
@@ -31,9 +31,15 @@ some-below (suc n) p = ⊎-elim
       (some-below n p))
     (cases-bool (p n))
 
-pub all-below-is : (n : ℕ) (p : ℕ → Bool) → Decides (all-below n p) ((i : ℕ) → i < n → p i ≡ true)
+-- a test of every number below n, by what the test tells of one
+pub all-below-is : (n : ℕ) (p : ℕ → Bool) (P : ℕ → Type 0) → ((i : ℕ) → Decides (p i) (P i)) → Decides (all-below n p) ((i : ℕ) → i < n → P i)
 unfolding all-below
-all-below-is n p = decides-below-and p (λ i. p i ≡ true) (λ m. all-below m p) (λ i. (λ e. e, λ e. e)) refl (λ _. refl) n
+all-below-is n p P each = decides-below-and p P (λ m. all-below m p) each refl (λ _. refl) n
+
+-- a test that one thing follows from another
+pub follows-is : {P Q : Type 0} (a b : Bool) → Decides a P → Decides b Q → Decides (not a || b) (P → Q)
+follows-is a b p q =
+    (λ e h. q .0 (let f = p .1 h in grind arith), λ f. ⊎-elim (λ e. or-right _ _ (q .1 (f (p .0 e)))) (λ e. or-left _ _ (not-from-false a e)) (cases-bool a))
 
 pub among-here : (x : ℕ) (xs : List ℕ) → among x (x ∷ xs) ≡ true
 unfolding among
