@@ -7,3 +7,4 @@ pub mod Ranks
 pub mod Fleets
 pub mod Changes
 pub mod Grants
+pub mod Alike
