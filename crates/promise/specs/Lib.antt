@@ -1,0 +1,2 @@
+-- What is promised of every row of events.
+pub mod Promise
