@@ -1,0 +1,1 @@
+-- What each event keeps: each shuttle is where it may be, no two hold a square together, and everybody can go.
