@@ -5,7 +5,7 @@ use mathlib.Core.List.{List, [], _∷_}
 use mathlib.Core.Logic.{_⊎_, inl, inr, ⊎-elim}
 use Prim.Native.Nat.{ℕ, suc, _<_}
 use native.Mathlib.Omega.{arith}
-use lib.Dec.{eqb, ltb}
+use lib.Dec.{eqb, leb}
 use Rattle.std.proofs.shelf.Tests.{cases-order, both-ways, and-parts, or-cases, not-true, eqb-true, eq-eqb}
 use Rattle.std.proofs.shelf.Ways.{tells}
 use Rattle.rules.specs.Tests.{every-to, any-to, among, is-empty}
@@ -14,6 +14,10 @@ use Rattle.rules.specs.Route.{step-ok, route-ok}
 use Rattle.rules.specs.Shuttle.{Shuttle, at-home, ordered, next-square, stepped-to, stepped, arrived}
 use Rattle.rules.proofs.Tests.{every-to-tells, any-to-from}
 use Rattle.promise.specs.Promise.{Placed}
+
+bay-is : (f : Field) (j d : ℕ) → j < f .shuttles → f .bay j ≡ d → is-bay f d ≡ true
+unfolding is-bay is-bay-to
+bay-is f j d l e = any-to-from (λ i. eqb (f .bay i) d) (f .shuttles) j l (eq-eqb _ _ e)
 
 -- a step may be made, part by part
 pub record May-step (f : Field) (i c d : ℕ) (rest : List ℕ) : Type 0 where
@@ -33,7 +37,10 @@ route-tells f i c d rest e =
 module _ (f : Field) (ok : sound f ≡ true) where
   bay-fine : (i : ℕ) → i < f .shuttles → (free-square f (f .bay i) ≡ true) × (is-bay-to f i (f .bay i) ≡ false)
   unfolding sound bay-ok
-  bay-fine i l = let (p, q) = and-parts _ _ (every-to-tells (bay-ok f) (f .shuttles) (and-parts _ _ (and-parts _ _ ok .1) .1) i l) in (p, not-true _ q)
+  bay-fine i l =
+      let all = and-parts (leb 1 (f .down)) _ (and-parts (leb 1 (f .across)) _ ok .1) .1 in
+      let (p, q) = and-parts (free-square f (f .bay i)) _ (every-to-tells (bay-ok f) (f .shuttles) all i l) in
+      (p, not-true _ q)
 
   -- no shuttle's bay is that of one before it
   bay-new : (i j : ℕ) → i < j → j < f .shuttles → f .bay i ≡ f .bay j → ⊥
@@ -53,14 +60,11 @@ module _ (f : Field) (ok : sound f ≡ true) where
       ⊎-elim
         (λ b. let q : f .bay j ≡ d = eqb-true _ _ b in
           ⊎-elim
-            (λ n. absurd (both-ways (is-bay f d) (not-true _ n) (bay-is j m d q)))
+            (λ n. absurd (both-ways (is-bay f d) (not-true _ n) (bay-is f j d m q)))
             (λ p. bays-differ i j l m (sym (q ∙ eqb-true _ _ (and-parts _ _ p .0))))
             (or-cases _ _ (s .bays)))
         (λ b. route-avoids i j l m d ds (s .after) b)
         (or-cases _ _ a)
-    where
-      bay-is : (j : ℕ) → j < f .shuttles → (d : ℕ) → f .bay j ≡ d → is-bay f d ≡ true
-      bay-is j m d q = ?
 
   pub placed-home : (i : ℕ) → i < f .shuttles → Placed f i (at-home f i)
   unfolding at-home route-ok
@@ -85,10 +89,12 @@ steps s e = by-route (s .route) refl
 module _ {f : Field} {i : ℕ} {s : Shuttle} (p : Placed f i s) where
   -- one with nothing left is in its bay
   pub idle-home : is-empty (s .route) ≡ true → s .at ≡ f .bay i
+  unfolding is-empty route-ok
   idle-home e = by-route (s .route) (p .on-route) e
     where
       by-route : (r : List ℕ) → route-ok f i (s .at) r ≡ true → is-empty r ≡ true → s .at ≡ f .bay i
-      by-route r = ?
+      by-route [] h _ = eqb-true _ _ h
+      by-route (c ∷ cs) h e = absurd (both-ways false refl e)
 
   pub placed-ordered : (r : List ℕ) → route-ok f i (s .at) r ≡ true → Placed f i (ordered s r)
   unfolding ordered

@@ -44,10 +44,14 @@ unfolding all-to numbers-to
 numbers-are zero = refl
 numbers-are (suc n) = ap (λ t. n ∷ t) (numbers-are n)
 
+pub one-meets : (c : ℕ) (r : List ℕ) → meets (c ∷ []) r ≡ among c r
+unfolding meets
+one-meets c r = grind (arith, among-is c r)
+
 -- a shuttle blocks another if its square is one that the other has still to go over
 pub blocks-is : (g : Fleet) (i j : ℕ) → blocks shuttles g i j ≡ among (g j .at) (g i .route)
-unfolding blocks meets
-blocks-is g i j = let e = among-is (g j .at) (g i .route) in grind (arith, e)
+unfolding blocks
+blocks-is g i j = one-meets (g j .at) (g i .route)
 
 clear-is : (g : Fleet) (i : ℕ) (js : List ℕ) → clear (blocks shuttles g) i js ≡ clear-of g i js
 unfolding clear clear-of
