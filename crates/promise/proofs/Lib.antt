@@ -2,3 +2,5 @@
 pub mod Shuttles
 pub mod Places
 pub mod Events
+pub mod GoingOn
+pub mod Home
