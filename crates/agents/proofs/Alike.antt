@@ -1,8 +1,8 @@
 -- Fleets of different kinds in which each holds, settles in and needs the same: the same can go, and the same is granted.
-use mathlib.Core.Path.{_≡_, refl, sym, ap, ap₂, subst, subst₂, _∙_}
+use mathlib.Core.Path.{_≡_, sym, ap, ap₂, subst₂, _∙_}
 use mathlib.Core.Bool.{Bool, true, false}
 use mathlib.Core.List.{List}
-use mathlib.Core.Logic.{_⊎_, inl, inr, ⊎-elim}
+use mathlib.Core.Logic.{_⊎_, ⊎-elim}
 use Prim.Native.Nat.{ℕ, _<_}
 use lib.Dec.{eqb}
 use Rattle.std.proofs.shelf.Tests.{both-ways, cases-bool, cond-true, cond-false}
@@ -51,13 +51,14 @@ module _ {S S′ : Type 0} (K : Kind S) (K′ : Kind S′) (n : ℕ) where
         free = λ j l ne. ap (λ x. meets x cs) (sym (f j l .held)) ∙ h .free j l ne;
         all = λ j l. goes-half K K′ n (put g i s) (put g′ i s′) f′ (λ _. false) (λ _. false) (λ _ _ z. z) j (h .all j l);
         each = λ l m j o. ⊎-elim
-          (λ (t : (l′ : ℕ) × (l′ < K .closings) × ((i : ℕ) → i < n → K′ .shut l (g′ i) ≡ K .shut l′ (g i)) × (K′ .shut l s′ ≡ K .shut l′ s)).
+            (λ (t : (l′ : ℕ) × (l′ < K .closings) × ((i : ℕ) → i < n → K′ .shut l (g′ i) ≡ K .shut l′ (g i)) × (K′ .shut l s′ ≡ K .shut l′ s)).
             let (l′, m′, p, q) = t in
             goes-half K K′ n (put g i s) (put g′ i s′) f′ (K .shut l′) (K′ .shut l) (λ a z v. sym (put-both (λ x y. K′ .shut l y ≡ K .shut l′ x) n g g′ i s s′ p q a z) ∙ v) j
-              (h .each l′ m′ j (goes-half K′ K n g′ g (λ a z. like-back (f a z)) (K′ .shut l) (K .shut l′) (λ a z v. p a z ∙ v) j o)))
-          (λ (t : ((i : ℕ) → i < n → K′ .shut l (g′ i) ≡ false) × (K′ .shut l s′ ≡ false)).
+            (h .each l′ m′ j (goes-half K′ K n g′ g (λ a z. like-back (f a z)) (K′ .shut l) (K .shut l′) (λ a z v. p a z ∙ v) j o)))
+            (λ (t : ((i : ℕ) → i < n → K′ .shut l (g′ i) ≡ false) × (K′ .shut l s′ ≡ false)).
             goes-half K K′ n (put g i s) (put g′ i s′) f′ (λ _. false) (K′ .shut l) (λ a z v. absurd (both-ways _ (put-both (λ x y. K′ .shut l y ≡ false) n g g′ i s s′ (t .0) (t .1) a z) v)) j (h .all j (below o)))
-          (c l m) }
+            (c l m);
+      }
 
 module _ {S S′ : Type 0} (K : Kind S) (K′ : Kind S′) (n : ℕ) (g : ℕ → S) (g′ : ℕ → S′) (alike : (i : ℕ) → i < n → Like K K′ (g i) (g′ i)) where
   -- in fleets that are alike the same can go

@@ -1,15 +1,14 @@
 -- Who can go after a change of the fleet, and of one agent.
 use mathlib.Core.Path.{_≡_, refl, sym, ap, subst, _∙_}
-use mathlib.Core.Bool.{Bool, true, false, not, _&&_, _||_}
+use mathlib.Core.Bool.{Bool, true, false}
 use mathlib.Core.List.{List}
-use mathlib.Core.Logic.{_⊎_, inl, inr, ⊎-elim}
-use Prim.Native.Nat.{ℕ, zero, suc, _<_, _≤_}
-use native.Mathlib.Omega.{arith}
+use mathlib.Core.Logic.{inl, inr, ⊎-elim}
+use Prim.Native.Nat.{ℕ, _<_}
 use Rattle.std.proofs.shelf.Tests.{cases-eq, both-ways}
-use Rattle.agents.specs.Numbers.{among, meets, Within}
-use Rattle.agents.specs.Going.{CanGo, goes}
+use Rattle.agents.specs.Numbers.{meets, Within}
+use Rattle.agents.specs.Going.{goes}
 use Rattle.agents.specs.Kinds.{Kind, put, blocks, Goes-under, Kept, Free-for, Apart}
-use Rattle.agents.proofs.Tests.{meets-tells, meets-from, false-from, same-test}
+use Rattle.agents.proofs.Tests.{meets-tells, meets-from, same-test}
 use Rattle.agents.proofs.Going.{kept, kept-fewer}
 use Rattle.agents.proofs.Fleets.{put-each, put-here, put-other}
 
@@ -47,8 +46,8 @@ module _ {S : Type 0} (K : Kind S) (n : ℕ) (g : ℕ → S) (i : ℕ) (s : S) w
     pub kept-first : Goes-under K n (put g i s) c i → Kept K n g (put g i s) c
     kept-first o a h = kept (λ _. Unit {0})
         (λ a l _. ⊎-elim (λ e. inl (subst (Goes-under K n (put g i s) c) (sym e) o))
-          (λ p. inr (subst (λ x. c x ≡ true) (put-other g i s a p), λ b m ne e. ⊎-elim (λ q. inr (subst (Goes-under K n (put g i s) c) (sym q) o)) (λ q. inl (sym (block-same a b p q) ∙ e, tt)) (cases-eq b i)))
-          (cases-eq a i))
+        (λ p. inr (subst (λ x. c x ≡ true) (put-other g i s a p), λ b m ne e. ⊎-elim (λ q. inr (subst (Goes-under K n (put g i s) c) (sym q) o)) (λ q. inl (sym (block-same a b p q) ∙ e, tt)) (cases-eq b i)))
+        (cases-eq a i))
         h tt
 
     -- the changed one can go if it is not closed and nobody blocks it
@@ -58,8 +57,11 @@ module _ {S : Type 0} (K : Kind S) (n : ℕ) (g : ℕ → S) (i : ℕ) (s : S) w
     -- if the changed one blocks nobody, each other that could go can go
     pub kept-aside : ((j : ℕ) → j < n → (j ≡ i → ⊥) → meets (K .settled s) (K .needs (g j)) ≡ false) → (j : ℕ) → (j ≡ i → ⊥) → Goes-under K n g c j → Goes-under K n (put g i s) c j
     kept-aside f j p h = kept (λ j. j ≡ i → ⊥)
-        (λ a l p. inr (subst (λ x. c x ≡ true) (put-other g i s a p), λ b m ne e.
-          ⊎-elim (λ q. absurd (both-ways _ (f a l p) (sym (block-by a p) ∙ subst (λ x. blocks K (put g i s) a x ≡ true) q e))) (λ q. inl (sym (block-same a b p q) ∙ e, q)) (cases-eq b i)))
+        (λ a l p. inr (
+          subst (λ x. c x ≡ true) (put-other g i s a p),
+          λ b m ne e.
+              ⊎-elim (λ q. absurd (both-ways _ (f a l p) (sym (block-by a p) ∙ subst (λ x. blocks K (put g i s) a x ≡ true) q e))) (λ q. inl (sym (block-same a b p q) ∙ e, q)) (cases-eq b i),
+        ))
         h p
 
     -- and the changed one can go too if it is not closed and those that block it could go
@@ -72,4 +74,4 @@ module _ {S : Type 0} (K : Kind S) (n : ℕ) (g : ℕ → S) (i : ℕ) (s : S) w
   apart-put p f = put-each (λ a x. a < n → Free-for K n (put g i s) a (K .held x)) g i s
       (λ l. put-each (λ b y. b < n → (i ≡ b → ⊥) → meets (K .held y) (K .held s) ≡ false) g i s (λ m ne. absurd (ne refl)) (λ b q m ne. f b m ne))
       (λ a q l. put-each (λ b y. b < n → (a ≡ b → ⊥) → meets (K .held y) (K .held (g a)) ≡ false) g i s
-        (λ m ne. meets-swap (K .held s) (K .held (g a)) ∙ f a l (λ e. q (sym e))) (λ b q′ m ne. p a l b m ne))
+      (λ m ne. meets-swap (K .held s) (K .held (g a)) ∙ f a l (λ e. q (sym e))) (λ b q′ m ne. p a l b m ne))

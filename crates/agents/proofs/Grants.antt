@@ -1,16 +1,14 @@
 -- The grant rule: the test and its parts, that it keeps safety, and that somebody is always granted what it needs.
-use mathlib.Core.Path.{_≡_, refl, sym, ap, subst, _∙_}
-use mathlib.Core.Bool.{Bool, true, false, not, _&&_, _||_}
+use mathlib.Core.Path.{_≡_, refl, sym, _∙_}
+use mathlib.Core.Bool.{Bool, true, false, not, _||_}
 use mathlib.Core.List.{List, _++_}
-use mathlib.Core.Logic.{_⊎_, inl, inr, ⊎-elim}
-use Prim.Native.Nat.{ℕ, zero, suc, _<_, _≤_}
+use mathlib.Core.Logic.{⊎-elim}
+use Prim.Native.Nat.{ℕ, _<_}
 use native.Mathlib.Omega.{arith}
-use lib.Dec.{eqb}
 use Rattle.std.specs.Orderings.{Decides}
-use Rattle.std.proofs.shelf.Tests.{cases-eq, cases-bool, both-ways, and-parts, and-from, or-cases}
-use Rattle.std.proofs.shelf.Ways.{tells, decides-like}
-use Rattle.agents.specs.Numbers.{among, meets, all-below, Within}
-use Rattle.agents.specs.Going.{CanGo, goes}
+use Rattle.std.proofs.shelf.Tests.{cases-eq, both-ways, and-parts, and-from, or-cases}
+use Rattle.std.proofs.shelf.Ways.{tells}
+use Rattle.agents.specs.Numbers.{meets, Within}
 use Rattle.agents.specs.Kinds.{Kind, put, blocks, goes-under, all-go, keeps, free-for, may, Goes-under, All-go, Kept, Free-for, Apart, Granted}
 use Rattle.agents.proofs.Tests.{all-below-is, follows-is, meets-tells, meets-from, among-append, false-from}
 use Rattle.agents.proofs.Going.{below, free-one}
@@ -36,15 +34,16 @@ module _ {S : Type 0} (K : Kind S) (n : ℕ) where
   unfolding keeps
   keeps-is g h = all-below-is (K .closings) _ (λ l. Kept K n g h (K .shut l))
       (λ l. let each = all-below-is n (λ i. not (goes-under K n g (K .shut l) i) || goes-under K n h (K .shut l) i) (λ i. Goes-under K n g (K .shut l) i → Goes-under K n h (K .shut l) i) (λ i. follows-is _ _ (goes-under-is K n g (K .shut l) i) (goes-under-is K n h (K .shut l) i)) in
-        (λ e i o. each .0 e i (below o) o, λ f. each .1 (λ i _. f i)))
+      (λ e i o. each .0 e i (below o) o, λ f. each .1 (λ i _. f i)))
 
   module _ (g : ℕ → S) (i : ℕ) (cs : List ℕ) (s : S) where
     -- the rule by trying is the rule
     pub may-is : Decides (may K n g i cs s) (Granted K n g i cs s)
     unfolding may
-    may-is =
-        (λ e. let (p, r) = and-parts _ _ e in let (q, r′) = and-parts _ _ r in record { free = free-for-is K n g i cs .0 p; all = all-go-is K n (put g i s) .0 q; each = keeps-is g (put g i s) .0 r′ },
-        λ h. and-from _ _ (free-for-is K n g i cs .1 (h .free)) (and-from _ _ (all-go-is K n (put g i s) .1 (h .all)) (keeps-is g (put g i s) .1 (h .each))))
+    may-is = (
+      λ e. let (p, r) = and-parts _ _ e in let (q, r′) = and-parts _ _ r in record { free = free-for-is K n g i cs .0 p; all = all-go-is K n (put g i s) .0 q; each = keeps-is g (put g i s) .0 r′ },
+      λ h. and-from _ _ (free-for-is K n g i cs .1 (h .free)) (and-from _ _ (all-go-is K n (put g i s) .1 (h .all)) (keeps-is g (put g i s) .1 (h .each))),
+    )
 
     -- a granted change keeps all apart, if what the agent holds after it is what it held or entered
     pub granted-apart : Apart K n g → i < n → Within (K .held s) (cs ++ K .held (g i)) → Granted K n g i cs s → Apart K n (put g i s)
@@ -56,9 +55,10 @@ module _ {S : Type 0} (K : Kind S) (n : ℕ) where
     pub may-first : All-go K n g → i < n → Free-for K n g i cs → ((j : ℕ) → j < n → (i ≡ j → ⊥) → meets (K .settled (g j)) (K .needs s) ≡ false) →
         ((l : ℕ) → l < K .closings → K .shut l s ≡ false) → may K n g i cs s ≡ true
     may-first o m f q c = may-is .1 (record {
-        free = f;
-        all = λ j l. kept-first K n g i s (λ _. false) (goes-first K n g i s (λ _. false) m refl q) j (o j l);
-        each = λ l h. kept-first K n g i s (K .shut l) (goes-first K n g i s (K .shut l) m (c l h) q) })
+      free = f;
+      all = λ j l. kept-first K n g i s (λ _. false) (goes-first K n g i s (λ _. false) m refl q) j (o j l);
+      each = λ l h. kept-first K n g i s (K .shut l) (goes-first K n g i s (K .shut l) m (c l h) q);
+    })
 
     -- so it is if no other holds what the agent enters and what it still needs: the way back
     pub may-free : ((j : ℕ) → j < n → Within (K .settled (g j)) (K .held (g j))) → All-go K n g → i < n → Free-for K n g i cs → Free-for K n g i (K .needs s) →
@@ -76,6 +76,10 @@ module _ {S : Type 0} (K : Kind S) (n : ℕ) where
   some-goes g top larger w o quiet i h e =
       let (k, a, b, f) = free-one (λ j. K .idle (g j)) quiet h e in
       let free : (xs ys : List ℕ) (j : ℕ) → j < n → (k ≡ j → ⊥) → Within xs (K .settled (g j)) → Within ys (K .needs (g k)) → meets xs ys ≡ false =
-          λ xs ys j m ne p q. false-from _ (λ v. both-ways _ (f j m ne) (meets-within xs ys (K .settled (g j)) (K .needs (g k)) p q v)) in
-      (k, a, b, λ cs s p q t. may-first g k cs s o (below a) (λ j m ne. free (K .held (g j)) cs j m ne (w j m) p) (λ j m ne. free (K .settled (g j)) (K .needs s) j m ne (λ _ z. z) q)
-        (λ l m. false-from _ (λ v. both-ways _ t (larger l s m v))))
+      λ xs ys j m ne p q. false-from _ (λ v. both-ways _ (f j m ne) (meets-within xs ys (K .settled (g j)) (K .needs (g k)) p q v)) in (
+        k,
+        a,
+        b,
+        λ cs s p q t. may-first g k cs s o (below a) (λ j m ne. free (K .held (g j)) cs j m ne (w j m) p) (λ j m ne. free (K .settled (g j)) (K .needs s) j m ne (λ _ z. z) q)
+            (λ l m. false-from _ (λ v. both-ways _ t (larger l s m v))),
+      )

@@ -1,19 +1,18 @@
 -- An order in which all go exists exactly if everybody can go, and exactly if trying leaves nobody.
-use mathlib.Core.Path.{_≡_, refl, sym, ap, subst, _∙_}
-use mathlib.Core.Bool.{Bool, true, false, not, _&&_, _||_}
+use mathlib.Core.Path.{_≡_, refl, sym, subst, _∙_}
+use mathlib.Core.Bool.{Bool, true, false, _||_}
 use mathlib.Core.List.{List, [], _∷_, _++_}
-use mathlib.Core.Logic.{_⊎_, inl, inr, ⊎-elim}
+use mathlib.Core.Logic.{⊎-elim}
 use Prim.Native.Nat.{ℕ, zero, suc, _<_, _≤_}
 use native.Mathlib.Omega.{arith}
-use lib.Dec.{eqb, ltb}
+use lib.Dec.{eqb}
 use Rattle.std.specs.Orderings.{Decides}
-use Rattle.std.proofs.shelf.Tests.{cases-eq, cases-lt, both-ways, and-parts, lt-ltb, or-right}
+use Rattle.std.proofs.shelf.Tests.{cases-lt, both-ways, lt-ltb, or-right}
 use Rattle.std.proofs.shelf.Ways.{tells}
 use Rattle.agents.specs.Numbers.{among, all-to, nobody-left}
-use Rattle.agents.specs.Going.{CanGo, nobody, clear, take-out, left-over, Others-go, None-free}
+use Rattle.agents.specs.Going.{CanGo, nobody, clear, left-over, Others-go, None-free}
 use Rattle.agents.specs.Orders.{Runs, none, first, try}
-use Rattle.agents.proofs.Tests.{among-here, among-middle, among-all-to, clear-tells, clear-from, same-test}
-use Rattle.agents.proofs.Going.{below}
+use Rattle.agents.proofs.Tests.{among-here, among-middle, among-all-to, clear-tells, clear-from}
 use Rattle.agents.proofs.Taking.{set-next, set-without, set-stuck, Stays, Loses, take-out-is, left-over-all}
 
 -- who is clear of a list is clear of a part of it
@@ -36,9 +35,9 @@ runs-go n {w} (first i before after c r) o =
     let mid : (j : ℕ) → among j is ≡ (eqb j i || among j js) = λ j. among-middle j i before after in
     let clear′ : (j : ℕ) → (i ≡ j → ⊥) → among j is ≡ true → w i j ≡ false = λ j ne m. clear-tells w i js c j ne (let h = mid j in grind (arith, tells)) in
     runs-go n r (⊎-elim
-      (λ (l : i < n). set-without n w nobody (λ j. among j is) (λ j. among j js) o i (set-next n w nobody (λ j. among j is) o i l refl (λ j m ne a. clear′ j ne a)) (λ j m ne a. let h = mid j in grind (arith, tells)))
-      (λ (l : n ≤ i). λ j m e. o j m (mid j ∙ grind (arith, tells)))
-      (cases-lt i n))
+    (λ (l : i < n). set-without n w nobody (λ j. among j is) (λ j. among j js) o i (set-next n w nobody (λ j. among j is) o i l refl (λ j m ne a. clear′ j ne a)) (λ j m ne a. let h = mid j in grind (arith, tells)))
+    (λ (l : n ≤ i). λ j m e. o j m (mid j ∙ grind (arith, tells)))
+    (cases-lt i n))
 
 -- if trying leaves nobody, the list can go in some order
 pub tries-run : (m : ℕ) (w : ℕ → ℕ → Bool) (is : List ℕ) → try m w is ≡ true → Runs w is
@@ -48,11 +47,11 @@ tries-run zero w (i ∷ is) e = absurd (both-ways false refl e)
 tries-run (suc m) w is e =
     let next : (js : List ℕ) → try m w js ≡ true → Runs w js = tries-run m w in
     ⊎-elim
-      (λ (t : Stays w nobody is is). next is (subst (λ js. try m w js ≡ true) (t .0) e))
-      (λ (t : Loses w nobody is is).
-        let (i, before, after, e₁, e₂, a) = t in
-        subst (Runs w) (sym e₁) (first i before after (clear-less w i before after (subst (λ js. clear w i js ≡ true) e₁ a)) (next (before ++ after) (subst (λ js. try m w js ≡ true) e₂ e))))
-      (take-out-is w nobody is is)
+    (λ (t : Stays w nobody is is). next is (subst (λ js. try m w js ≡ true) (t .0) e))
+    (λ (t : Loses w nobody is is).
+    let (i, before, after, e₁, e₂, a) = t in
+    subst (Runs w) (sym e₁) (first i before after (clear-less w i before after (subst (λ js. clear w i js ≡ true) e₁ a)) (next (before ++ after) (subst (λ js. try m w js ≡ true) e₂ e))))
+    (take-out-is w nobody is is)
 
 module _ (n : ℕ) (w : ℕ → ℕ → Bool) where
   -- if everybody can go, trying leaves nobody

@@ -1,12 +1,12 @@
 -- Who can go, by ranks: a number for each so that blockers have smaller ones.
-use mathlib.Core.Path.{_≡_, refl, sym, ap, subst, _∙_}
-use mathlib.Core.Bool.{Bool, true, false, not, cond, _&&_, _||_}
-use mathlib.Core.List.{List, [], _∷_, _++_}
-use mathlib.Core.Logic.{_⊎_, inl, inr, ⊎-elim}
-use Prim.Native.Nat.{ℕ, zero, suc, _<_, _≤_}
+use mathlib.Core.Path.{_≡_, sym, ap, subst, _∙_}
+use mathlib.Core.Bool.{Bool, true, false, not, cond, _||_}
+use mathlib.Core.List.{List, _++_}
+use mathlib.Core.Logic.{⊎-elim}
+use Prim.Native.Nat.{ℕ, zero, suc, _<_}
 use native.Mathlib.Omega.{arith}
-use lib.Dec.{eqb, ltb}
-use Rattle.std.proofs.shelf.Tests.{cases-bool, cases-eq, both-ways, and-parts}
+use lib.Dec.{eqb}
+use Rattle.std.proofs.shelf.Tests.{cases-bool, both-ways, and-parts}
 use Rattle.std.proofs.shelf.Ways.{tells}
 use Rattle.agents.specs.Numbers.{among, all-to}
 use Rattle.agents.specs.Going.{CanGo, goes, clear, take-out, left-over}
@@ -40,19 +40,19 @@ rounds-fall (suc m) w k is i j a e ne v =
     let js = take-out w k is is in
     let next : among i js ≡ true → rounds m w k js j < rounds m w k js i = λ a′. rounds-fall m w k js i j a′ e ne v in
     ⊎-elim
-      (λ a′. let h = next a′ in grind arith)
-      (λ (a′ : among i js ≡ false). let h : among j is ≡ false = false-from (among j is) (λ b. both-ways (w i j) (clear-tells w i is (last a′) j ne b) v) in grind arith)
-      (cases-bool (among i js))
+    (λ a′. let h = next a′ in grind arith)
+    (λ (a′ : among i js ≡ false). let h : among j is ≡ false = false-from (among j is) (λ b. both-ways (w i j) (clear-tells w i is (last a′) j ne b) v) in grind arith)
+    (cases-bool (among i js))
   where
     last : among i (take-out w k is is) ≡ false → clear w i is ≡ true
     last a′ = ⊎-elim
         (λ (t : Stays w k is is). absurd (both-ways _ a′ (ap (among i) (t .0) ∙ a)))
         (λ (t : Loses w k is is).
-          let (x, before, after, e₁, e₂, c) = t in
-          let mid : among i is ≡ (eqb i x || among i (before ++ after)) = ap (among i) e₁ ∙ among-middle i x before after in
-          let gone : among i (before ++ after) ≡ false = sym (ap (among i) e₂) ∙ a′ in
-          let same : i ≡ x = grind (arith, tells) in
-          subst (λ y. clear w y is ≡ true) (sym same) (and-parts (not (k x)) (clear w x is) c .1))
+        let (x, before, after, e₁, e₂, c) = t in
+        let mid : among i is ≡ (eqb i x || among i (before ++ after)) = ap (among i) e₁ ∙ among-middle i x before after in
+        let gone : among i (before ++ after) ≡ false = sym (ap (among i) e₂) ∙ a′ in
+        let same : i ≡ x = grind (arith, tells) in
+        subst (λ y. clear w y is ≡ true) (sym same) (and-parts (not (k x)) (clear w x is) c .1))
         (take-out-is w k is is)
 
 -- those who can go have ranks

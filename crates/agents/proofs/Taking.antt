@@ -1,6 +1,6 @@
 -- Taking out, in any order or the first each time, finds exactly those who can go.
 use mathlib.Core.Path.{_≡_, refl, sym, ap, subst, _∙_}
-use mathlib.Core.Bool.{Bool, true, false, not, _&&_, _||_}
+use mathlib.Core.Bool.{Bool, true, false, not, _||_}
 use mathlib.Core.List.{List, [], _∷_, _++_}
 use mathlib.Core.Logic.{_⊎_, inl, inr, ⊎-elim}
 use Prim.Native.Nat.{ℕ, zero, suc, _<_, _≤_}
@@ -12,8 +12,8 @@ use Rattle.std.proofs.shelf.Tests.{cases-bool, cases-eq, both-ways, and-parts, 
 use Rattle.std.proofs.shelf.Ways.{tells}
 use Rattle.agents.specs.Numbers.{among, all-to}
 use Rattle.agents.specs.Going.{CanGo, goes, Waits, closed, behind, clear, at-once, take-out, left-over, can-go, Others-go, None-free}
-use Rattle.agents.proofs.Tests.{among-append, among-middle, among-all-to, clear-tells, clear-not, false-from, same-test, some-below}
-use Rattle.agents.proofs.Going.{below, not-closed, blocker-goes, some-blocker}
+use Rattle.agents.proofs.Tests.{among-middle, among-all-to, clear-tells, clear-not, false-from, same-test}
+use Rattle.agents.proofs.Going.{below, some-blocker}
 
 module _ (n : ℕ) (w : ℕ → ℕ → Bool) (k : ℕ → Bool) where
   -- one of a set that is not closed and blocked by nobody else of it can go
@@ -30,9 +30,9 @@ module _ (n : ℕ) (w : ℕ → ℕ → Bool) (k : ℕ → Bool) where
   set-stuck In s (goes i l c b) =
       let rest : (j : ℕ) → j < n → (i ≡ j → ⊥) → w i j ≡ true → In j ≡ false = λ j m ne e. set-stuck In s (b j m ne e) in
       false-from (In i) (λ h. ⊎-elim
-        (λ q. both-ways (k i) c q)
-        (λ (t : (j : ℕ) × (j < n) × (i ≡ j → ⊥) × (In j ≡ true) × (w i j ≡ true)). both-ways (In (t .0)) (rest (t .0) (t .1) (t .2) (t .4)) (t .3))
-        (s i l h))
+      (λ q. both-ways (k i) c q)
+      (λ (t : (j : ℕ) × (j < n) × (i ≡ j → ⊥) × (In j ≡ true) × (w i j ≡ true)). both-ways (In (t .0)) (rest (t .0) (t .1) (t .2) (t .4)) (t .3))
+      (s i l h))
 
 -- nobody of the list can go at once, and it stays as it is
 abbrev pub Stays : (ℕ → ℕ → Bool) → (ℕ → Bool) → (all left : List ℕ) → Type 0
@@ -49,11 +49,11 @@ take-out-is w k all [] = inl (refl, λ i e. absurd (both-ways false refl e))
 take-out-is w k all (x ∷ xs) = ⊎-elim
     (λ e. inr (x, [], xs, refl, cc, e))
     (λ e. ⊎-elim
-      (λ (t : Stays w k all xs).
-        inl (cc (e, t .0), λ i m. ⊎-elim (λ (q : i ≡ x). subst (λ y. at-once w k all y ≡ false) (sym q) e) (λ ne. t .1 i (grind (arith, tells))) (cases-eq i x)))
-      (λ (t : Loses w k all xs).
-        inr (t .0, x ∷ t .1, t .2, ap (λ l. x ∷ l) (t .3), cc (e, t .4), t .5))
-      (take-out-is w k all xs))
+    (λ (t : Stays w k all xs).
+    inl (cc (e, t .0), λ i m. ⊎-elim (λ (q : i ≡ x). subst (λ y. at-once w k all y ≡ false) (sym q) e) (λ ne. t .1 i (grind (arith, tells))) (cases-eq i x)))
+    (λ (t : Loses w k all xs).
+    inr (t .0, x ∷ t .1, t .2, ap (λ l. x ∷ l) (t .3), cc (e, t .4), t .5))
+    (take-out-is w k all xs))
     (cases-bool (at-once w k all x))
 
 -- a list that loses nobody stays as it is
@@ -79,21 +79,24 @@ module _ (n : ℕ) (w : ℕ → ℕ → Bool) (k : ℕ → Bool) where
   left-over-rest (suc m) is l b o =
       let next : (js : List ℕ) → length js ≤ m → ((i : ℕ) → among i js ≡ true → i < n) → Others-go n w k (λ i. among i js) → Rest (left-over m w k js) = left-over-rest m in
       ⊎-elim
-        (λ (t : Stays w k is is).
-          subst Rest (sym (ap (left-over m w k) (t .0) ∙ stays m w k is (t .0)))
-            (b, o, λ i l h. ⊎-elim
-              (λ e. inl (not-false (k i) e))
-              (λ e. let (j, ne, a, v) = clear-not w i is e in inr (j, b j a, ne, a, v))
-              (and-cases _ _ (t .1 i h))))
-        (λ (t : Loses w k is is).
-          let (i, before, after, e, e′, a) = t in
-          let js = before ++ after in
-          let mid : (j : ℕ) → among j is ≡ (eqb j i || among j js) = λ j. ap (among j) e ∙ among-middle j i before after in
-          let long : length is ≡ suc (length js) = ap length e ∙ (simp length-append (omega arith)) in
-          let go : CanGo n w k i = set-next n w k (λ j. among j is) o i (b i (mid i ∙ grind (arith, tells))) (not-true (k i) (and-parts (not (k i)) (clear w i is) a .0)) (λ j m ne h. clear-tells w i is (and-parts (not (k i)) (clear w i is) a .1) j ne h) in
-          subst (λ x. Rest (left-over m w k x)) (sym e′)
-            (next js (omega arith) (λ j h. b j (mid j ∙ grind (arith, tells))) (set-without n w k (λ j. among j is) (λ j. among j js) o i go (λ j m ne h. let f = mid j in grind (arith, tells)))))
-        (take-out-is w k is is)
+      (λ (t : Stays w k is is).
+      subst Rest (sym (ap (left-over m w k) (t .0) ∙ stays m w k is (t .0))) (
+        b,
+        o,
+        λ i l h. ⊎-elim
+            (λ e. inl (not-false (k i) e))
+            (λ e. let (j, ne, a, v) = clear-not w i is e in inr (j, b j a, ne, a, v))
+            (and-cases _ _ (t .1 i h)),
+      ))
+      (λ (t : Loses w k is is).
+      let (i, before, after, e, e′, a) = t in
+      let js = before ++ after in
+      let mid : (j : ℕ) → among j is ≡ (eqb j i || among j js) = λ j. ap (among j) e ∙ among-middle j i before after in
+      let long : length is ≡ suc (length js) = ap length e ∙ (simp length-append (omega arith)) in
+      let go : CanGo n w k i = set-next n w k (λ j. among j is) o i (b i (mid i ∙ grind (arith, tells))) (not-true (k i) (and-parts (not (k i)) (clear w i is) a .0)) (λ j m ne h. clear-tells w i is (and-parts (not (k i)) (clear w i is) a .1) j ne h) in
+      subst (λ x. Rest (left-over m w k x)) (sym e′)
+      (next js (omega arith) (λ j h. b j (mid j ∙ grind (arith, tells))) (set-without n w k (λ j. among j is) (λ j. among j js) o i go (λ j m ne h. let f = mid j in grind (arith, tells)))))
+      (take-out-is w k is is)
 
   -- what is left over of all
   pub left-over-all : Rest (left-over n w k (all-to n))
@@ -123,12 +126,12 @@ pub goes-or-waits : {n : ℕ} {w : ℕ → ℕ → Bool} {k : ℕ → Bool} (k�
 goes-or-waits {n} {w} {k} k′ (goes i l c b) =
     let rest : (j : ℕ) → j < n → (i ≡ j → ⊥) → w i j ≡ true → CanGo n w k′ j ⊎ Waits n w k′ j = λ j m ne e. goes-or-waits k′ (b j m ne e) in
     ⊎-elim
-      (λ e. inr (closed i l e))
-      (λ e. ⊎-elim
-        (λ (t : (j : ℕ) × (j < n) × (i ≡ j → ⊥) × (w i j ≡ true) × (not (can-go n w k′ j) ≡ true)).
-          let (j, m, ne, v, q) = t in
-          inr (⊎-elim (λ g. absurd (can-go-not n w k′ j (not-true _ q) g)) (λ r. behind i j l m ne v r) (rest j m ne v)))
-        (λ (f : (j : ℕ) → j < n → (i ≡ j → ⊥) → w i j ≡ true → not (can-go n w k′ j) ≡ false).
-          inl (goes i l e (λ j m ne v. can-go-tells n w k′ j (not-false _ (f j m ne v)))))
-        (some-blocker n w (λ j. not (can-go n w k′ j)) i))
-      (cases-bool (k′ i))
+    (λ e. inr (closed i l e))
+    (λ e. ⊎-elim
+    (λ (t : (j : ℕ) × (j < n) × (i ≡ j → ⊥) × (w i j ≡ true) × (not (can-go n w k′ j) ≡ true)).
+    let (j, m, ne, v, q) = t in
+    inr (⊎-elim (λ g. absurd (can-go-not n w k′ j (not-true _ q) g)) (λ r. behind i j l m ne v r) (rest j m ne v)))
+    (λ (f : (j : ℕ) → j < n → (i ≡ j → ⊥) → w i j ≡ true → not (can-go n w k′ j) ≡ false).
+    inl (goes i l e (λ j m ne v. can-go-tells n w k′ j (not-false _ (f j m ne v)))))
+    (some-blocker n w (λ j. not (can-go n w k′ j)) i))
+    (cases-bool (k′ i))

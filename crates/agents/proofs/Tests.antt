@@ -1,13 +1,13 @@
 -- What the small tests on numbers and lists tell, each as facts and back.
-use mathlib.Core.Path.{_≡_, refl, sym, ap, subst, _∙_}
-use mathlib.Core.Bool.{Bool, true, false, not, _&&_, _||_}
+use mathlib.Core.Path.{_≡_, refl, sym, subst}
+use mathlib.Core.Bool.{Bool, true, false, not, _||_}
 use mathlib.Core.List.{List, [], _∷_, _++_}
 use mathlib.Core.Logic.{_⊎_, inl, inr, ⊎-elim}
 use Prim.Native.Nat.{ℕ, zero, suc, _<_}
 use native.Mathlib.Omega.{arith}
 use lib.Dec.{eqb, ltb}
 use Rattle.std.specs.Orderings.{Decides}
-use Rattle.std.proofs.shelf.Tests.{cases-eq, cases-bool, eqb-true, eq-eqb, or-cases, or-left, or-right, or-parts, and-parts, and-cases, and-from, both-ways, not-from-false}
+use Rattle.std.proofs.shelf.Tests.{cases-eq, cases-bool, eqb-true, or-cases, or-left, or-right, and-parts, and-cases, both-ways, not-from-false}
 use Rattle.std.proofs.shelf.Ways.{tells, same-from-decides, decides-below-and}
 use Rattle.agents.specs.Numbers.{among, meets, all-below, all-to}
 use Rattle.agents.specs.Going.{clear}
@@ -26,9 +26,9 @@ some-below zero p = inr (λ j l. absurd (omega arith))
 some-below (suc n) p = ⊎-elim
     (λ e. inl (n, omega arith, e))
     (λ e. ⊎-elim
-      (λ (t : (j : ℕ) × (j < n) × (p j ≡ true)). inl (t .0, omega arith, t .2))
-      (λ (f : (j : ℕ) → j < n → p j ≡ false). inr (λ j l. ⊎-elim (λ q. subst (λ x. p x ≡ false) (sym q) e) (λ ne. f j (omega arith)) (cases-eq j n)))
-      (some-below n p))
+    (λ (t : (j : ℕ) × (j < n) × (p j ≡ true)). inl (t .0, omega arith, t .2))
+    (λ (f : (j : ℕ) → j < n → p j ≡ false). inr (λ j l. ⊎-elim (λ q. subst (λ x. p x ≡ false) (sym q) e) (λ ne. f j (omega arith)) (cases-eq j n)))
+    (some-below n p))
     (cases-bool (p n))
 
 -- a test of every number below n, by what the test tells of one

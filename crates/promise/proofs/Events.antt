@@ -1,13 +1,13 @@
 -- What each event keeps: each shuttle is where it may be, no two hold a square together, and everybody can go.
-use mathlib.Core.Path.{_≡_, refl, sym, ap, subst, _∙_}
-use mathlib.Core.Bool.{Bool, true, false, not, cond, _&&_, _||_}
-use mathlib.Core.List.{List, [], _∷_, _++_}
-use mathlib.Core.Logic.{_⊎_, inl, inr, ⊎-elim}
-use Prim.Native.Nat.{ℕ, suc, _<_, _≤_}
+use mathlib.Core.Path.{_≡_, refl, sym, subst, _∙_}
+use mathlib.Core.Bool.{true, false, _||_}
+use mathlib.Core.List.{List, [], _∷_}
+use mathlib.Core.Logic.{⊎-elim}
+use Prim.Native.Nat.{ℕ, _<_, _≤_}
 use native.Mathlib.Omega.{arith}
-use lib.Dec.{eqb, ltb, leb}
+use lib.Dec.{eqb}
 use lib.ListN.{length}
-use Rattle.std.proofs.shelf.Tests.{cases-eq, cases-bool, both-ways, and-parts, and-from, not-true, not-from-false, or-left, ltb-true, lt-ltb, leb-true, le-leb, cond-both, eqb-true}
+use Rattle.std.proofs.shelf.Tests.{cases-eq, both-ways, and-parts, and-from, not-true, not-from-false, ltb-true, lt-ltb, leb-true, le-leb, cond-both}
 use Rattle.std.proofs.shelf.Ways.{tells}
 use Rattle.rules.specs.Tests.{among, is-empty}
 use Rattle.rules.specs.Field.{Field, sound}
@@ -15,16 +15,16 @@ use Rattle.rules.specs.Route.{route-ok}
 use Rattle.rules.specs.Shuttle.{Shuttle, Fleet, put, at-home, ordered, next-square, stepped, arrived}
 use Rattle.rules.specs.Event.{Event, order, step, arrive, takes, grants, arrives, does, who, becomes, happens, after}
 use Rattle.agents.specs.Numbers.{among as is-in, meets, Within}
-use Rattle.agents.specs.Going.{CanGo, goes}
-use Rattle.agents.specs.Kinds.{Kind, put as with-agent, blocks, may, Goes-under, All-go, Free-for, Apart}
-use Rattle.agents.proofs.Tests.{false-from, among-append, among-here}
+use Rattle.agents.specs.Going.{goes}
+use Rattle.agents.specs.Kinds.{put as with-agent, may, Goes-under, All-go, Apart}
+use Rattle.agents.proofs.Tests.{false-from}
 use Rattle.agents.proofs.Fleets.{put-each}
 use Rattle.agents.proofs.Changes.{meets-within, kept-less, kept-aside, goes-last, apart-put}
 use Rattle.agents.proofs.Grants.{may-is, granted-apart}
 use Rattle.promise.specs.Promise.{Placed}
 use Rattle.promise.specs.Rule.{shuttles}
 use Rattle.promise.proofs.Shuttles.{one-meets, meets-one, blocks-is, rule-is-the-same}
-use Rattle.promise.proofs.Places.{bays-differ, route-avoids, placed-home, Steps, steps, idle-home, placed-ordered, placed-stepped, placed-arrived}
+use Rattle.promise.proofs.Places.{bays-differ, route-avoids, placed-home, steps, idle-home, placed-ordered, placed-stepped, placed-arrived}
 
 -- when an event happens, part by part
 pub record Taken (f : Field) (g : Fleet) (i : ℕ) (r : List ℕ) : Type 0 where
@@ -96,9 +96,10 @@ module _ (f : Field) (g : Fleet) (p : Good f g) (i : ℕ) (l : i < f .shuttles) 
         each = each-put s (placed-ordered (p .each i l) r (t .good));
         apart = apart-stands s refl refl;
         all-go = λ j m. ⊎-elim
-          (λ e. subst (Goes-under shuttles n (with-agent g i s) (λ _. false)) (sym e) (goes-last shuttles n g i s (λ _. false) l refl aside (λ a b _ _. p .all-go a b)))
-          (λ ne. kept-aside shuttles n g i s (λ _. false) aside j ne (p .all-go j m))
-          (cases-eq j i) }
+            (λ e. subst (Goes-under shuttles n (with-agent g i s) (λ _. false)) (sym e) (goes-last shuttles n g i s (λ _. false) l refl aside (λ a b _ _. p .all-go a b)))
+            (λ ne. kept-aside shuttles n g i s (λ _. false) aside j ne (p .all-go j m))
+            (cases-eq j i);
+      }
 
   -- a step that is granted
   pub step-keeps : Granted-step f g i → Good f (put g i (stepped (g i)))
@@ -111,26 +112,29 @@ module _ (f : Field) (g : Fleet) (p : Good f g) (i : ℕ) (l : i < f .shuttles) 
       record {
         each = each-put (stepped (g i)) (placed-stepped (p .each i l) (t .something-left));
         apart = granted-apart shuttles n g i (c ∷ []) (stepped (g i)) (p .apart) l (λ x a. let e₁ = q .to in let e₂ = q .moves in let e₃ = q .from in grind (arith, tells)) h;
-        all-go = h .all }
+        all-go = h .all;
+      }
 
   -- an arrival: it settles where it did and needs what it did
   pub arrive-keeps : Good f (put g i (arrived (g i)))
   unfolding put with-agent arrived
   arrive-keeps = record {
-      each = each-put (arrived (g i)) (placed-arrived (p .each i l));
-      apart = apart-stands (arrived (g i)) refl refl;
-      all-go = λ j m. kept-less shuttles (f .shuttles) g (with-agent g i (arrived (g i))) (λ _. false)
+    each = each-put (arrived (g i)) (placed-arrived (p .each i l));
+    apart = apart-stands (arrived (g i)) refl refl;
+    all-go = λ j m. kept-less shuttles (f .shuttles) g (with-agent g i (arrived (g i))) (λ _. false)
         (λ a _. put-each (λ a s. Within (shuttles .settled s) (shuttles .settled (g a)) × Within (s .route) (g a .route) × (false ≡ true → false ≡ true)) g i (arrived (g i)) (λ _ z. z, λ _ z. z, λ z. z) (λ _ _. (λ _ z. z, λ _ z. z, λ z. z)) a)
-        j (p .all-go j m) }
+        j (p .all-go j m);
+  }
 
 module _ (f : Field) (ok : sound f ≡ true) where
   -- all at home
   pub good-home : Good f (at-home f)
   unfolding at-home is-in among
   good-home = record {
-      each = placed-home f ok;
-      apart = λ i l j m ne. false-from _ (λ h. ne (bays-differ f ok i j l m (let h′ : (eqb (f .bay i) (f .bay j) || false) ≡ true = sym (meets-one (f .bay j ∷ []) (f .bay i)) ∙ h in grind (arith, tells))));
-      all-go = λ i l. goes i l refl (λ j m ne e. absurd (both-ways false refl (sym (blocks-is (at-home f) i j) ∙ e))) }
+    each = placed-home f ok;
+    apart = λ i l j m ne. false-from _ (λ h. ne (bays-differ f ok i j l m (let h′ : (eqb (f .bay i) (f .bay j) || false) ≡ true = sym (meets-one (f .bay j ∷ []) (f .bay i)) ∙ h in grind (arith, tells))));
+    all-go = λ i l. goes i l refl (λ j m ne e. absurd (both-ways false refl (sym (blocks-is (at-home f) i j) ∙ e)));
+  }
 
   pub good-happens : (g : Fleet) (e : Event) → Good f g → Good f (happens f g e)
   unfolding happens does who becomes

@@ -1,21 +1,18 @@
 -- A fleet as it always is goes on: somebody moves or is granted a step, orders are taken, and a step is refused only for a reason.
 use mathlib.Core.Path.{_≡_, refl, sym, ap, subst, _∙_}
-use mathlib.Core.Bool.{Bool, true, false, not, cond, _&&_, _||_}
-use mathlib.Core.List.{List, [], _∷_}
+use mathlib.Core.Bool.{true, false}
+use mathlib.Core.List.{[], _∷_}
 use mathlib.Core.Logic.{_⊎_, inl, inr, ⊎-elim}
-use Prim.Native.Nat.{ℕ, _<_, _≤_}
+use Prim.Native.Nat.{ℕ, _<_}
 use native.Mathlib.Omega.{arith}
-use lib.Dec.{eqb, ltb}
-use lib.ListN.{length}
 use Rattle.std.proofs.shelf.Tests.{both-ways, and-cases, not-false, lt-ltb, cond-true}
 use Rattle.std.proofs.shelf.Ways.{tells}
 use Rattle.rules.specs.Tests.{among, is-empty}
 use Rattle.rules.specs.Field.{Field, sound}
 use Rattle.rules.specs.Route.{route-ok}
-use Rattle.rules.specs.Shuttle.{Shuttle, Fleet, held-by-other, put, ordered, next-square, stepped}
-use Rattle.rules.specs.Safe.{Safe, safe}
-use Rattle.rules.specs.Event.{Event, order, step, arrive, takes, grants, does, who, becomes, happens, after}
-use Rattle.agents.specs.Numbers.{among as is-in, Within}
+use Rattle.rules.specs.Shuttle.{Fleet, put, ordered, next-square, stepped}
+use Rattle.rules.specs.Event.{Event, order, takes, grants, does, who, becomes, happens, after}
+use Rattle.agents.specs.Numbers.{among as is-in}
 use Rattle.agents.specs.Kinds.{put as with-agent, blocks}
 use Rattle.agents.proofs.Tests.{some-below, false-from, meets-from}
 use Rattle.agents.proofs.Going.{below}
@@ -50,16 +47,21 @@ module _ (f : Field) (ok : sound f ≡ true) (g : Fleet) (p : Good f g) where
   unfolding is-in
   goes-on i l e = ⊎-elim inl
       (λ (still : (j : ℕ) → j < f .shuttles → g j .moving ≡ false).
-        let (k, a, b, h) = some-goes shuttles (f .shuttles) g (λ _. false) (λ _ _ z. absurd (omega arith)) (λ j m c z. let s = still j m in grind (arith, tells)) (p .all-go) idle-blocks i (p .all-go i l) e in
-        let q = steps (g k) b in
-        inr (k, below a, grants-from f g k (record {
+      let (k, a, b, h) = some-goes shuttles (f .shuttles) g (λ _. false) (λ _ _ z. absurd (omega arith)) (λ j m c z. let s = still j m in grind (arith, tells)) (p .all-go) idle-blocks i (p .all-go i l) e in
+      let q = steps (g k) b in
+      inr (
+        k,
+        below a,
+        grants-from f g k (record {
           there = below a;
           stands = still k (below a);
           something-left = b;
           granted = h (next-square (g k .route) ∷ []) (stepped (g k))
-            (λ c z. let e = q .to in subst (λ r. is-in c r ≡ true) (sym (q .left)) (grind (arith, tells)))
-            (λ c z. subst (λ r. is-in c r ≡ true) (sym (q .left)) (grind (arith, tells)))
-            refl })))
+              (λ c z. let e = q .to in subst (λ r. is-in c r ≡ true) (sym (q .left)) (grind (arith, tells)))
+              (λ c z. subst (λ r. is-in c r ≡ true) (sym (q .left)) (grind (arith, tells)))
+              refl;
+        }),
+      ))
       (some-below (f .shuttles) (λ j. g j .moving))
 
 pub never-stuck : Never-stuck
@@ -81,11 +83,11 @@ pub refused-when : Refused-when
 unfolding grants
 refused-when f g i l e =
     ⊎-elim (λ a. absurd (both-ways _ a (lt-ltb i (f .shuttles) l)))
-      (λ a. ⊎-elim (λ b. inl (not-false _ b))
-        (λ b. inr (⊎-elim (λ c. inl (not-false _ c))
-          (λ c. inr (⊎-elim (λ d. inl (not-false _ d))
-            (λ d. inr (λ s. both-ways _ d (safe-is (f .shuttles) (put g i (stepped (g i))) .1 s)))
-            (and-cases _ _ c)))
-          (and-cases _ _ b)))
-        (and-cases _ _ a))
-      (and-cases _ _ e)
+    (λ a. ⊎-elim (λ b. inl (not-false _ b))
+    (λ b. inr (⊎-elim (λ c. inl (not-false _ c))
+    (λ c. inr (⊎-elim (λ d. inl (not-false _ d))
+    (λ d. inr (λ s. both-ways _ d (safe-is (f .shuttles) (put g i (stepped (g i))) .1 s)))
+    (and-cases _ _ c)))
+    (and-cases _ _ b)))
+    (and-cases _ _ a))
+    (and-cases _ _ e)

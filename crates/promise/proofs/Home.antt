@@ -1,18 +1,17 @@
 -- All come home: what is left falls with each step and arrival, and where none can be made all are home.
-use mathlib.Core.Path.{_≡_, refl, sym, ap, subst, _∙_}
-use mathlib.Core.Bool.{Bool, true, false, not, cond, _&&_, _||_}
+use mathlib.Core.Path.{_≡_, refl, sym, ap, _∙_}
+use mathlib.Core.Bool.{true, false, cond}
 use mathlib.Core.List.{List, [], _∷_, _++_}
 use mathlib.Core.Logic.{_⊎_, inl, inr, ⊎-elim}
-use Prim.Native.Nat.{ℕ, zero, suc, _+_, _*_, _<_, _≤_}
+use Prim.Native.Nat.{ℕ, suc, _+_, _<_}
 use native.Mathlib.Omega.{arith}
-use lib.Dec.{eqb, ltb}
 use lib.ListN.{length}
 use Rattle.std.proofs.shelf.Tests.{both-ways, cases-bool, and-cases, lt-ltb}
 use Rattle.std.proofs.shelf.Lists.{nil-from-length}
 use Rattle.rules.specs.Tests.{is-empty}
 use Rattle.rules.specs.Field.{Field, sound}
-use Rattle.rules.specs.Shuttle.{Shuttle, Fleet, put, at-home, ordered, stepped, arrived}
-use Rattle.rules.specs.Event.{Event, order, step, arrive, takes, grants, arrives, does, who, becomes, happens, after}
+use Rattle.rules.specs.Shuttle.{Shuttle, Fleet, put, at-home, arrived}
+use Rattle.rules.specs.Event.{Event, order, step, arrive, grants, arrives, does, who, becomes, happens, after}
 use Rattle.rules.proofs.Tests.{empty-tells}
 use Rattle.agents.specs.Kinds.{put as with-agent}
 use Rattle.agents.proofs.Tests.{some-below}
@@ -77,11 +76,11 @@ module _ (f : Field) (ok : sound f ≡ true) (g : Fleet) (p : Good f g) where
   all-home no-step no-arrival i l =
       let stands : (j : ℕ) → j < f .shuttles → g j .moving ≡ false = λ j m. ⊎-elim (λ a. absurd (both-ways _ a (lt-ltb j (f .shuttles) m))) (λ a. a) (and-cases _ _ (no-arrival j m)) in
       let idle : is-empty (g i .route) ≡ true = ⊎-elim (λ e. e)
-          (λ e. absurd (⊎-elim
-            (λ (t : (j : ℕ) × (j < f .shuttles) × (g j .moving ≡ true)). both-ways _ (stands (t .0) (t .1)) (t .2))
-            (λ (t : (j : ℕ) × (j < f .shuttles) × (grants f g j ≡ true)). both-ways _ (no-step (t .0) (t .1)) (t .2))
-            (goes-on f ok g p i l e)))
-          (cases-bool (is-empty (g i .route))) in
+      (λ e. absurd (⊎-elim
+      (λ (t : (j : ℕ) × (j < f .shuttles) × (g j .moving ≡ true)). both-ways _ (stands (t .0) (t .1)) (t .2))
+      (λ (t : (j : ℕ) × (j < f .shuttles) × (grants f g j ≡ true)). both-ways _ (no-step (t .0) (t .1)) (t .2))
+      (goes-on f ok g p i l e)))
+      (cases-bool (is-empty (g i .route))) in
       let at = idle-home (p .each i l) idle in
       same-shuttle (g i) (at-home f i) at (stands i l) (p .each i l .stands-on (stands i l) ∙ at) (nil-from-length _ (empty-tells _ idle))
 
@@ -94,17 +93,21 @@ way-home f es ok = let (a, _, h) = descend work (λ _. Unit {0}) (λ a. All-home
   where
     Row : Type 0
     Row = (ds : List Event) × Drives f es ds
+
     now : Row → Fleet
     now a = after f (a .0 ++ es)
+
     work : Row → ℕ
     work a = sum-to events-left (now a) (f .shuttles)
+
     on : (a : Row) (e : Event) → no-order e ≡ true → does f (now a) e ≡ true → (b : Row) × Unit {0} × (work b < work a)
     on a e o d = ((e ∷ a .0, then e (a .0) o d (a .1)), tt, let k = event-falls f (now a) e o d in omega arith)
+
     next : (a : Row) → Unit {0} → All-home f (now a) ⊎ ((b : Row) × Unit {0} × (work b < work a))
     next a _ = ⊎-elim
         (λ (t : (i : ℕ) × (i < f .shuttles) × (does f (now a) (step i) ≡ true)). inr (on a (step (t .0)) refl (t .2)))
         (λ (s : (i : ℕ) → i < f .shuttles → does f (now a) (step i) ≡ false). ⊎-elim
-          (λ (t : (i : ℕ) × (i < f .shuttles) × (does f (now a) (arrive i) ≡ true)). inr (on a (arrive (t .0)) refl (t .2)))
-          (λ (h : (i : ℕ) → i < f .shuttles → does f (now a) (arrive i) ≡ false). inl (ends-home f (a .0 ++ es) ok s h))
-          (some-below (f .shuttles) (λ i. does f (now a) (arrive i))))
+        (λ (t : (i : ℕ) × (i < f .shuttles) × (does f (now a) (arrive i) ≡ true)). inr (on a (arrive (t .0)) refl (t .2)))
+        (λ (h : (i : ℕ) → i < f .shuttles → does f (now a) (arrive i) ≡ false). inl (ends-home f (a .0 ++ es) ok s h))
+        (some-below (f .shuttles) (λ i. does f (now a) (arrive i))))
         (some-below (f .shuttles) (λ i. does f (now a) (step i)))

@@ -1,14 +1,12 @@
 -- Where a shuttle may be: bays and routes, and each change of one shuttle.
 use mathlib.Core.Path.{_≡_, refl, sym, ap, subst, _∙_}
-use mathlib.Core.Bool.{Bool, true, false, not, _&&_, _||_}
+use mathlib.Core.Bool.{true, false, not, _&&_, _||_}
 use mathlib.Core.List.{List, [], _∷_}
-use mathlib.Core.Logic.{_⊎_, inl, inr, ⊎-elim}
-use Prim.Native.Nat.{ℕ, suc, _<_}
-use native.Mathlib.Omega.{arith}
+use mathlib.Core.Logic.{⊎-elim}
+use Prim.Native.Nat.{ℕ, _<_}
 use lib.Dec.{eqb, leb}
 use Rattle.std.proofs.shelf.Tests.{cases-order, both-ways, and-parts, or-cases, not-true, eqb-true, eq-eqb}
-use Rattle.std.proofs.shelf.Ways.{tells}
-use Rattle.rules.specs.Tests.{every-to, any-to, among, is-empty}
+use Rattle.rules.specs.Tests.{among, is-empty}
 use Rattle.rules.specs.Field.{Field, is-bay-to, is-bay, free-square, bay-ok, sound, beside}
 use Rattle.rules.specs.Route.{step-ok, route-ok}
 use Rattle.rules.specs.Shuttle.{Shuttle, at-home, ordered, next-square, stepped-to, stepped, arrived}
@@ -58,13 +56,13 @@ module _ (f : Field) (ok : sound f ≡ true) where
   route-avoids i j l m c (d ∷ ds) e a =
       let s = route-tells f i c d ds e in
       ⊎-elim
-        (λ b. let q : f .bay j ≡ d = eqb-true _ _ b in
-          ⊎-elim
-            (λ n. absurd (both-ways (is-bay f d) (not-true _ n) (bay-is f j d m q)))
-            (λ p. bays-differ i j l m (sym (q ∙ eqb-true _ _ (and-parts _ _ p .0))))
-            (or-cases _ _ (s .bays)))
-        (λ b. route-avoids i j l m d ds (s .after) b)
-        (or-cases _ _ a)
+      (λ b. let q : f .bay j ≡ d = eqb-true _ _ b in
+      ⊎-elim
+      (λ n. absurd (both-ways (is-bay f d) (not-true _ n) (bay-is f j d m q)))
+      (λ p. bays-differ i j l m (sym (q ∙ eqb-true _ _ (and-parts _ _ p .0))))
+      (or-cases _ _ (s .bays)))
+      (λ b. route-avoids i j l m d ds (s .after) b)
+      (or-cases _ _ a)
 
   pub placed-home : (i : ℕ) → i < f .shuttles → Placed f i (at-home f i)
   unfolding at-home route-ok

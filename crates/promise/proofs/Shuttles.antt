@@ -1,27 +1,26 @@
 -- Shuttles as agents that block each other: what the hall's definitions are in the general theory.
 use mathlib.Core.Path.{_≡_, refl, sym, ap, subst, _∙_}
-use mathlib.Core.Bool.{Bool, true, false, not, cond, _&&_, _||_}
+use mathlib.Core.Bool.{Bool, true, false, not, _||_}
 use mathlib.Core.List.{List, [], _∷_, _++_}
-use mathlib.Core.Logic.{_⊎_, inl, inr, ⊎-elim, _↔_}
+use mathlib.Core.Logic.{_⊎_, inl, inr, ⊎-elim}
 use Prim.Native.Nat.{ℕ, zero, suc, _+_, _<_}
 use native.Mathlib.Omega.{arith}
-use lib.Dec.{ltb, eqb}
+use lib.Dec.{eqb}
 use Rattle.std.specs.Orderings.{Decides}
-use Rattle.std.proofs.shelf.Tests.{cases-bool, both-ways, eq-eqb, ne-eqb, and-from}
-use Rattle.std.proofs.shelf.Ways.{tells, decides-like}
+use Rattle.std.proofs.shelf.Tests.{cases-bool, both-ways, eq-eqb, ne-eqb}
+use Rattle.std.proofs.shelf.Ways.{tells}
 use Rattle.rules.specs.Tests.{among, is-empty, any-to}
-use Rattle.rules.specs.Field.{Field}
 use Rattle.rules.specs.Shuttle.{Shuttle, Fleet, holds, held-by-other, put, next-square, stepped}
 use Rattle.rules.specs.Safe.{clear-of, Runs, none, first, all-to, Safe, without, first-clear, on-first, try, safe}
 use Rattle.rules.specs.Event.{grants}
 use Rattle.agents.specs.Numbers.{among as is-in, meets, all-below, all-to as numbers-to, nobody-left}
-use Rattle.agents.specs.Going.{CanGo, nobody, clear, take-out, left-over, Others-go, None-free}
+use Rattle.agents.specs.Going.{nobody, clear, take-out, left-over, Others-go, None-free}
 use Rattle.agents.specs.Orders.{Runs as Goes, none as no-one, first as then-first, try as tries}
-use Rattle.agents.specs.Kinds.{Kind, put as with-agent, sum-to as sum-of, blocks, may, free-for, all-go, keeps, goes-under, Granted, All-go}
+use Rattle.agents.specs.Kinds.{put as with-agent, sum-to as sum-of, blocks, may, free-for, all-go, keeps, All-go}
 use Rattle.agents.proofs.Tests.{same-test}
 use Rattle.agents.proofs.Taking.{stays}
 use Rattle.agents.proofs.Orders.{tries-exactly, tries-all-go, set-tries}
-use Rattle.agents.proofs.Grants.{all-go-is, free-for-is, may-is}
+use Rattle.agents.proofs.Grants.{all-go-is}
 use Rattle.promise.specs.Promise.{sum-to}
 use Rattle.promise.specs.Rule.{shuttles, Rule-is-the-same}
 
@@ -75,15 +74,15 @@ first-clear-is g all [] = inl (refl, refl)
 first-clear-is g all (x ∷ xs) =
     let c = clear-is g x all in
     ⊎-elim
-      (λ (e : clear-of g x all ≡ true). inr (x, cc, let q = eq-eqb x x refl in cc, e))
-      (λ (e : clear-of g x all ≡ false). ⊎-elim
-        (λ (t : (first-clear g all xs ≡ []) × (take-out (blocks shuttles g) nobody all xs ≡ xs)). inl (cc (t .0), cc (t .1)))
-        (λ (t : (i : ℕ) × (first-clear g all xs ≡ i ∷ []) × (take-out (blocks shuttles g) nobody all xs ≡ without i xs) × (clear-of g i all ≡ true)).
-          let (i, p, q, r) = t in
-          let other : eqb i x ≡ false = ne-eqb i x (λ z. both-ways (clear-of g x all) e (subst (λ y. clear-of g y all ≡ true) z r)) in
-          inr (i, cc, cc, r))
-        (first-clear-is g all xs))
-      (cases-bool (clear-of g x all))
+    (λ (e : clear-of g x all ≡ true). inr (x, cc, let q = eq-eqb x x refl in cc, e))
+    (λ (e : clear-of g x all ≡ false). ⊎-elim
+    (λ (t : (first-clear g all xs ≡ []) × (take-out (blocks shuttles g) nobody all xs ≡ xs)). inl (cc (t .0), cc (t .1)))
+    (λ (t : (i : ℕ) × (first-clear g all xs ≡ i ∷ []) × (take-out (blocks shuttles g) nobody all xs ≡ without i xs) × (clear-of g i all ≡ true)).
+    let (i, p, q, r) = t in
+    let other : eqb i x ≡ false = ne-eqb i x (λ z. both-ways (clear-of g x all) e (subst (λ y. clear-of g y all ≡ true) z r)) in
+    inr (i, cc, cc, r))
+    (first-clear-is g all xs))
+    (cases-bool (clear-of g x all))
 
 try-is : (m : ℕ) (g : Fleet) (is : List ℕ) → tries m (blocks shuttles g) is ≡ try m g is
 unfolding tries left-over nobody-left try on-first is-empty
@@ -92,11 +91,11 @@ try-is zero g (i ∷ is) = refl
 try-is (suc m) g is =
     let next : (js : List ℕ) → tries m (blocks shuttles g) js ≡ try m g js = try-is m g in
     ⊎-elim
-      (λ (t : (first-clear g is is ≡ []) × (take-out (blocks shuttles g) nobody is is ≡ is)).
-        ap (tries m (blocks shuttles g)) (t .1) ∙ ap nobody-left (stays m (blocks shuttles g) nobody is (t .1)) ∙ empty is ∙ ap (λ x. on-first x (λ i. try m g (without i is)) (is-empty is)) (sym (t .0)))
-      (λ (t : (i : ℕ) × (first-clear g is is ≡ i ∷ []) × (take-out (blocks shuttles g) nobody is is ≡ without i is) × (clear-of g i is ≡ true)).
-        ap (tries m (blocks shuttles g)) (t .2) ∙ next (without (t .0) is) ∙ ap (λ x. on-first x (λ i. try m g (without i is)) (is-empty is)) (sym (t .1)))
-      (first-clear-is g is is)
+    (λ (t : (first-clear g is is ≡ []) × (take-out (blocks shuttles g) nobody is is ≡ is)).
+    ap (tries m (blocks shuttles g)) (t .1) ∙ ap nobody-left (stays m (blocks shuttles g) nobody is (t .1)) ∙ empty is ∙ ap (λ x. on-first x (λ i. try m g (without i is)) (is-empty is)) (sym (t .0)))
+    (λ (t : (i : ℕ) × (first-clear g is is ≡ i ∷ []) × (take-out (blocks shuttles g) nobody is is ≡ without i is) × (clear-of g i is ≡ true)).
+    ap (tries m (blocks shuttles g)) (t .2) ∙ next (without (t .0) is) ∙ ap (λ x. on-first x (λ i. try m g (without i is)) (is-empty is)) (sym (t .1)))
+    (first-clear-is g is is)
   where
     empty : (is : List ℕ) → nobody-left is ≡ is-empty is
     empty [] = refl
@@ -110,9 +109,10 @@ module _ (n : ℕ) (g : Fleet) where
   -- trying is right
   pub safe-is : Decides (safe n g) (Safe n g)
   unfolding Safe
-  safe-is =
-      (λ e. runs-from (subst (Goes (blocks shuttles g)) (numbers-are n) (tries-exactly n (blocks shuttles g) .0 (tries-is ∙ e))),
-      λ r. sym tries-is ∙ tries-exactly n (blocks shuttles g) .1 (subst (Goes (blocks shuttles g)) (sym (numbers-are n)) (runs-to r)))
+  safe-is = (
+    λ e. runs-from (subst (Goes (blocks shuttles g)) (numbers-are n) (tries-exactly n (blocks shuttles g) .0 (tries-is ∙ e))),
+    λ r. sym tries-is ∙ tries-exactly n (blocks shuttles g) .1 (subst (Goes (blocks shuttles g)) (sym (numbers-are n)) (runs-to r)),
+  )
 
   -- all is safe exactly if everybody can go
   pub safe-all-go : Decides (safe n g) (All-go shuttles n g)

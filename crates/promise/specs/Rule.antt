@@ -1,7 +1,7 @@
 -- Shuttles as agents that block each other: the hall's own rule for a step is the one grant rule, for every fleet.
 use mathlib.Core.Path.{_≡_}
-use mathlib.Core.Bool.{Bool, false, not, cond, _&&_}
-use mathlib.Core.List.{List, [], _∷_}
+use mathlib.Core.Bool.{false, not, cond, _&&_}
+use mathlib.Core.List.{[], _∷_}
 use Prim.Native.Nat.{ℕ}
 use lib.Dec.{ltb}
 use Rattle.rules.specs.Tests.{is-empty}
@@ -27,4 +27,4 @@ abbrev pub Rule-is-the-same : Type 0
 Rule-is-the-same =
     (f : Field) (g : Fleet) (i : ℕ)
     → grants f g i ≡ (ltb i (f .shuttles) && (not (g i .moving) && (not (is-empty (g i .route))
-      && may shuttles (f .shuttles) g i (next-square (g i .route) ∷ []) (stepped (g i)))))
+    && may shuttles (f .shuttles) g i (next-square (g i .route) ∷ []) (stepped (g i)))))
