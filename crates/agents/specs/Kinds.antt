@@ -50,7 +50,8 @@ keeps K n g h = all-below (K .closings) (λ l. all-below n (λ i. not (goes-unde
 unfoldable pub free-for : {S : Type 0} → Kind S → ℕ → (ℕ → S) → ℕ → List ℕ → Bool
 free-for K n g i cs = all-below n (λ j. eqb i j || not (meets (K .held (g j)) cs))
 
--- agent i may change to s and enter the places cs: no other holds any of them, everybody can go after it, and it keeps whoever can go in each closing
+-- agent i may change to s and enter the places cs: no other holds any of them, everybody can go after it, and it keeps whoever can go in
+-- each closing
 unfoldable pub may : {S : Type 0} → Kind S → ℕ → (ℕ → S) → ℕ → List ℕ → S → Bool
 may K n g i cs s = free-for K n g i cs && (all-go K n (put g i s) && keeps K n g (put g i s))
 

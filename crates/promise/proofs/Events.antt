@@ -7,7 +7,8 @@ use Prim.Native.Nat.{ℕ, _<_, _≤_}
 use native.Mathlib.Omega.{arith}
 use lib.Dec.{eqb}
 use lib.ListN.{length}
-use Rattle.std.proofs.shelf.Tests.{cases-eq, both-ways, and-parts, and-from, not-true, not-from-false, ltb-true, lt-ltb, leb-true, le-leb, cond-both}
+use Rattle.std.proofs.shelf.Tests.{cases-eq, both-ways, and-parts, and-from, not-true, not-from-false}
+use Rattle.std.proofs.shelf.Tests.{ltb-true, lt-ltb, leb-true, le-leb, cond-both}
 use Rattle.std.proofs.shelf.Ways.{tells}
 use Rattle.rules.specs.Tests.{among, is-empty}
 use Rattle.rules.specs.Field.{Field, sound}
@@ -52,7 +53,8 @@ takes-tells f g i r e =
 pub takes-from : (f : Field) (g : Fleet) (i : ℕ) (r : List ℕ) → Taken f g i r → takes f g i r ≡ true
 unfolding takes
 takes-from f g i r t =
-    and-from _ _ (lt-ltb _ _ (t .there)) (and-from _ _ (not-from-false _ (t .stands)) (and-from _ _ (t .nothing-left) (and-from _ _ (le-leb _ _ (t .short)) (t .good))))
+    and-from _ _ (lt-ltb _ _ (t .there))
+    (and-from _ _ (not-from-false _ (t .stands)) (and-from _ _ (t .nothing-left) (and-from _ _ (le-leb _ _ (t .short)) (t .good))))
 
 pub grants-tells : (f : Field) (g : Fleet) (i : ℕ) → grants f g i ≡ true → Granted-step f g i
 grants-tells f g i e =
@@ -63,7 +65,8 @@ grants-tells f g i e =
 
 pub grants-from : (f : Field) (g : Fleet) (i : ℕ) → Granted-step f g i → grants f g i ≡ true
 grants-from f g i t =
-    rule-is-the-same f g i ∙ and-from _ _ (lt-ltb _ _ (t .there)) (and-from _ _ (not-from-false _ (t .stands)) (and-from _ _ (not-from-false _ (t .something-left)) (t .granted)))
+    rule-is-the-same f g i ∙ and-from _ _ (lt-ltb _ _ (t .there))
+    (and-from _ _ (not-from-false _ (t .stands)) (and-from _ _ (not-from-false _ (t .something-left)) (t .granted)))
 
 pub arrives-tells : (f : Field) (g : Fleet) (i : ℕ) → arrives f g i ≡ true → (i < f .shuttles) × (g i .moving ≡ true)
 unfolding arrives
@@ -83,7 +86,9 @@ module _ (f : Field) (g : Fleet) (p : Good f g) (i : ℕ) (l : i < f .shuttles) 
   apart-stands : (s : Shuttle) → s .at ≡ g i .at → s .moving ≡ false → Apart shuttles (f .shuttles) (with-agent g i s)
   unfolding is-in
   apart-stands s e m = apart-put shuttles (f .shuttles) g i s (p .apart) (λ j k ne. false-from _ (λ h.
-      both-ways _ (p .apart i l j k ne) (meets-within (shuttles .held (g j)) (shuttles .held s) (shuttles .held (g j)) (shuttles .held (g i)) (λ _ a. a) (λ c a. grind (arith, tells)) h)))
+      both-ways _ (p .apart i l j k ne)
+      (meets-within (shuttles .held (g j)) (shuttles .held s) (shuttles .held (g j)) (shuttles .held (g i)) (λ _ a. a)
+      (λ c a. grind (arith, tells)) h)))
 
   -- an order: the shuttle is in its bay, which is on nobody else's route, and whoever blocks it can go
   pub order-keeps : sound f ≡ true → (r : List ℕ) → Taken f g i r → Good f (put g i (ordered (g i) r))
@@ -91,12 +96,17 @@ module _ (f : Field) (g : Fleet) (p : Good f g) (i : ℕ) (l : i < f .shuttles) 
   order-keeps ok r t =
       let s = ordered (g i) r in
       let n = f .shuttles in
-      let aside : (j : ℕ) → j < n → (j ≡ i → ⊥) → meets (shuttles .settled s) (g j .route) ≡ false = λ j m ne. false-from _ (λ h. ne (route-avoids f ok j i m l (g j .at) (g j .route) (p .each j m .on-route) (subst (λ c. among c (g j .route) ≡ true) (idle-home (p .each i l) (t .nothing-left)) (sym (one-meets (g i .at) (g j .route)) ∙ h)))) in
+      let aside : (j : ℕ) → j < n → (j ≡ i → ⊥) →
+      meets (shuttles .settled s) (g j .route) ≡ false = λ j m ne. false-from _
+      (λ h. ne (route-avoids f ok j i m l (g j .at) (g j .route) (p .each j m .on-route)
+      (subst (λ c. among c (g j .route) ≡ true) (idle-home (p .each i l) (t .nothing-left))
+      (sym (one-meets (g i .at) (g j .route)) ∙ h)))) in
       record {
         each = each-put s (placed-ordered (p .each i l) r (t .good));
         apart = apart-stands s refl refl;
         all-go = λ j m. ⊎-elim
-            (λ e. subst (Goes-under shuttles n (with-agent g i s) (λ _. false)) (sym e) (goes-last shuttles n g i s (λ _. false) l refl aside (λ a b _ _. p .all-go a b)))
+            (λ e. subst (Goes-under shuttles n (with-agent g i s) (λ _. false)) (sym e)
+            (goes-last shuttles n g i s (λ _. false) l refl aside (λ a b _ _. p .all-go a b)))
             (λ ne. kept-aside shuttles n g i s (λ _. false) aside j ne (p .all-go j m))
             (cases-eq j i);
       }
@@ -111,7 +121,8 @@ module _ (f : Field) (g : Fleet) (p : Good f g) (i : ℕ) (l : i < f .shuttles) 
       let q = steps (g i) (t .something-left) in
       record {
         each = each-put (stepped (g i)) (placed-stepped (p .each i l) (t .something-left));
-        apart = granted-apart shuttles n g i (c ∷ []) (stepped (g i)) (p .apart) l (λ x a. let e₁ = q .to in let e₂ = q .moves in let e₃ = q .from in grind (arith, tells)) h;
+        apart = granted-apart shuttles n g i (c ∷ []) (stepped (g i)) (p .apart) l
+            (λ x a. let e₁ = q .to in let e₂ = q .moves in let e₃ = q .from in grind (arith, tells)) h;
         all-go = h .all;
       }
 
@@ -122,7 +133,8 @@ module _ (f : Field) (g : Fleet) (p : Good f g) (i : ℕ) (l : i < f .shuttles) 
     each = each-put (arrived (g i)) (placed-arrived (p .each i l));
     apart = apart-stands (arrived (g i)) refl refl;
     all-go = λ j m. kept-less shuttles (f .shuttles) g (with-agent g i (arrived (g i))) (λ _. false)
-        (λ a _. put-each (λ a s. Within (shuttles .settled s) (shuttles .settled (g a)) × Within (s .route) (g a .route) × (false ≡ true → false ≡ true)) g i (arrived (g i)) (λ _ z. z, λ _ z. z, λ z. z) (λ _ _. (λ _ z. z, λ _ z. z, λ z. z)) a)
+        (λ a _. put-each (λ a s. Within (shuttles .settled s) (shuttles .settled (g a)) × Within (s .route) (g a .route) ×
+        (false ≡ true → false ≡ true)) g i (arrived (g i)) (λ _ z. z, λ _ z. z, λ z. z) (λ _ _. (λ _ z. z, λ _ z. z, λ z. z)) a)
         j (p .all-go j m);
   }
 
@@ -132,14 +144,19 @@ module _ (f : Field) (ok : sound f ≡ true) where
   unfolding at-home is-in among
   good-home = record {
     each = placed-home f ok;
-    apart = λ i l j m ne. false-from _ (λ h. ne (bays-differ f ok i j l m (let h′ : (eqb (f .bay i) (f .bay j) || false) ≡ true = sym (meets-one (f .bay j ∷ []) (f .bay i)) ∙ h in grind (arith, tells))));
+    apart = λ i l j m ne. false-from _
+        (λ h. ne (bays-differ f ok i j l m
+        (let h′ : (eqb (f .bay i) (f .bay j) || false) ≡ true = sym (meets-one (f .bay j ∷ []) (f .bay i)) ∙ h in
+        grind (arith, tells))));
     all-go = λ i l. goes i l refl (λ j m ne e. absurd (both-ways false refl (sym (blocks-is (at-home f) i j) ∙ e)));
   }
 
   pub good-happens : (g : Fleet) (e : Event) → Good f g → Good f (happens f g e)
   unfolding happens does who becomes
-  good-happens g (order i r) p = cond-both (takes f g i r) _ g (Good f) (λ e. let t = takes-tells f g i r e in order-keeps f g p i (t .there) ok r t) (λ _. p)
-  good-happens g (step i) p = cond-both (grants f g i) _ g (Good f) (λ e. let t = grants-tells f g i e in step-keeps f g p i (t .there) t) (λ _. p)
+  good-happens g (order i r) p = cond-both (takes f g i r) _ g (Good f)
+      (λ e. let t = takes-tells f g i r e in order-keeps f g p i (t .there) ok r t) (λ _. p)
+  good-happens g (step i) p = cond-both (grants f g i) _ g (Good f) (λ e. let t = grants-tells f g i e in step-keeps f g p i (t .there) t)
+      (λ _. p)
   good-happens g (arrive i) p = cond-both (arrives f g i) _ g (Good f) (λ e. arrive-keeps f g p i (arrives-tells f g i e .0)) (λ _. p)
 
   -- and so after every row of events

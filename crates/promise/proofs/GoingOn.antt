@@ -18,7 +18,8 @@ use Rattle.agents.proofs.Tests.{some-below, false-from, meets-from}
 use Rattle.agents.proofs.Going.{below}
 use Rattle.agents.proofs.Fleets.{put-here}
 use Rattle.agents.proofs.Grants.{some-goes}
-use Rattle.promise.specs.Promise.{Apart, Some-moves, Some-granted, Never-stuck, Always-taken, Always-safe, Trying-is-right, Always-placed, Refused-when}
+use Rattle.promise.specs.Promise.{Apart, Some-moves, Some-granted, Never-stuck, Always-taken}
+use Rattle.promise.specs.Promise.{Always-safe, Trying-is-right, Always-placed, Refused-when}
 use Rattle.promise.specs.Rule.{shuttles}
 use Rattle.promise.proofs.Shuttles.{blocks-is, holds-is, safe-is, safe-all-go}
 use Rattle.promise.proofs.Places.{route-avoids, steps, idle-home}
@@ -26,7 +27,8 @@ use Rattle.promise.proofs.Events.{takes-from, grants-from, Good, good-after}
 
 pub apart : Apart
 apart f es i j c ok l m ne h k =
-    let g = after f es in both-ways _ (good-after f ok es .apart i l j m ne) (meets-from (shuttles .held (g j)) (shuttles .held (g i)) c (holds-is (g j) c ∙ k) (holds-is (g i) c ∙ h))
+    let g = after f es in both-ways _ (good-after f ok es .apart i l j m ne)
+    (meets-from (shuttles .held (g j)) (shuttles .held (g i)) c (holds-is (g j) c ∙ k) (holds-is (g i) c ∙ h))
 
 pub always-safe : Always-safe
 always-safe f es ok = let g = after f es in safe-is (f .shuttles) g .0 (safe-all-go (f .shuttles) g .1 (good-after f ok es .all-go))
@@ -41,13 +43,15 @@ module _ (f : Field) (ok : sound f ≡ true) (g : Fleet) (p : Good f g) where
   -- one with nothing left blocks nobody, as its bay is on no other's route
   idle-blocks : (i j : ℕ) → i < f .shuttles → j < f .shuttles → (i ≡ j → ⊥) → is-empty (g j .route) ≡ true → blocks shuttles g i j ≡ false
   idle-blocks i j l m ne e = false-from _ (λ h.
-      ne (route-avoids f ok i j l m (g i .at) (g i .route) (p .each i l .on-route) (subst (λ c. among c (g i .route) ≡ true) (idle-home (p .each j m) e) (sym (blocks-is g i j) ∙ h))))
+      ne (route-avoids f ok i j l m (g i .at) (g i .route) (p .each i l .on-route)
+      (subst (λ c. among c (g i .route) ≡ true) (idle-home (p .each j m) e) (sym (blocks-is g i j) ∙ h))))
 
   pub goes-on : (i : ℕ) → i < f .shuttles → is-empty (g i .route) ≡ false → Some-moves f g ⊎ Some-granted f g
   unfolding is-in
   goes-on i l e = ⊎-elim inl
       (λ (still : (j : ℕ) → j < f .shuttles → g j .moving ≡ false).
-      let (k, a, b, h) = some-goes shuttles (f .shuttles) g (λ _. false) (λ _ _ z. absurd (omega arith)) (λ j m c z. let s = still j m in grind (arith, tells)) (p .all-go) idle-blocks i (p .all-go i l) e in
+      let (k, a, b, h) = some-goes shuttles (f .shuttles) g (λ _. false) (λ _ _ z. absurd (omega arith))
+      (λ j m c z. let s = still j m in grind (arith, tells)) (p .all-go) idle-blocks i (p .all-go i l) e in
       let q = steps (g k) b in
       inr (
         k,
@@ -76,7 +80,15 @@ pub always-taken : Always-taken
 unfolding after does who becomes put with-agent ordered
 always-taken f es i r ok l m e n h =
     let g = after f es in
-    let t : takes f g i r ≡ true = takes-from f g i r (record { there = l; stands = m; nothing-left = e; short = n; good = subst (λ c. route-ok f i c r ≡ true) (sym (idle-home (good-after f ok es .each i l) e)) h }) in
+    let t : takes f g i r ≡ true = takes-from f g i r
+    (record {
+      there = l;
+      stands = m;
+      nothing-left = e;
+      short = n;
+      good = subst (λ c. route-ok f i c r ≡ true)
+          (sym (idle-home (good-after f ok es .each i l) e)) h;
+    }) in
     (t, ap (λ x. x i .route) (done f g (order i r) t) ∙ ap (λ s. s .route) (put-here g i (ordered (g i) r)))
 
 pub refused-when : Refused-when

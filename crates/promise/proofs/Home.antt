@@ -17,7 +17,8 @@ use Rattle.agents.specs.Kinds.{put as with-agent}
 use Rattle.agents.proofs.Tests.{some-below}
 use Rattle.agents.proofs.Going.{descend}
 use Rattle.agents.proofs.Fleets.{sum-put}
-use Rattle.promise.specs.Promise.{All-home, no-order, Drives, nothing, then, Way-home, sum-to, squares-left, events-left, Less-left, Work-falls, Ends-home}
+use Rattle.promise.specs.Promise.{All-home, no-order, Drives, nothing, then, Way-home, sum-to}
+use Rattle.promise.specs.Promise.{squares-left, events-left, Less-left, Work-falls, Ends-home}
 use Rattle.promise.proofs.Shuttles.{sum-is}
 use Rattle.promise.proofs.Places.{steps, idle-home}
 use Rattle.promise.proofs.Events.{Good, good-after, grants-tells, arrives-tells}
@@ -30,7 +31,8 @@ unfolding put with-agent
 sum-done m f g e d l =
     let s = becomes e (g (who e)) in
     let n = f .shuttles in
-    ap (λ x. sum-to m x n + m (g (who e))) (done f g e d) ∙ ap (λ x. x + m (g (who e))) (sym (sum-is m (put g (who e) s) n)) ∙ sum-put m g (who e) s n .0 l ∙ ap (λ x. x + m s) (sum-is m g n)
+    ap (λ x. sum-to m x n + m (g (who e))) (done f g e d) ∙ ap (λ x. x + m (g (who e))) (sym (sum-is m (put g (who e) s) n)) ∙ sum-put m g
+    (who e) s n .0 l ∙ ap (λ x. x + m s) (sum-is m g n)
 
 pub less-left : Less-left
 unfolding after does who becomes squares-left
@@ -42,7 +44,8 @@ less-left f es i h =
     omega arith
 
 -- each event that happens and is no order leaves one event less
-event-falls : (f : Field) (g : Fleet) (e : Event) → no-order e ≡ true → does f g e ≡ true → suc (sum-to events-left (happens f g e) (f .shuttles)) ≡ sum-to events-left g (f .shuttles)
+event-falls : (f : Field) (g : Fleet) (e : Event) → no-order e ≡ true → does f g e ≡ true →
+    suc (sum-to events-left (happens f g e) (f .shuttles)) ≡ sum-to events-left g (f .shuttles)
 unfolding does who becomes events-left no-order arrived
 event-falls f g (order i r) o d = absurd (both-ways false refl o)
 event-falls f g (step i) o d =
@@ -63,7 +66,8 @@ pub work-falls : Work-falls
 unfolding after
 work-falls f es ds r = falls r
   where
-    falls : {ds : List Event} → Drives f es ds → length ds + sum-to events-left (after f (ds ++ es)) (f .shuttles) ≡ sum-to events-left (after f es) (f .shuttles)
+    falls : {ds : List Event} → Drives f es ds →
+        length ds + sum-to events-left (after f (ds ++ es)) (f .shuttles) ≡ sum-to events-left (after f es) (f .shuttles)
     falls nothing = omega arith
     falls (then e ds o d r) = let h = falls r in let k = event-falls f (after f (ds ++ es)) e o d in omega arith
 
@@ -71,10 +75,13 @@ same-shuttle : (s t : Shuttle) → s .at ≡ t .at → s .moving ≡ t .moving �
 same-shuttle s t a m b r k = record { at = a k; moving = m k; behind = b k; route = r k }
 
 module _ (f : Field) (ok : sound f ≡ true) (g : Fleet) (p : Good f g) where
-  all-home : ((i : ℕ) → i < f .shuttles → does f g (step i) ≡ false) → ((i : ℕ) → i < f .shuttles → does f g (arrive i) ≡ false) → All-home f g
+  all-home : ((i : ℕ) → i < f .shuttles → does f g (step i) ≡ false) → ((i : ℕ) → i < f .shuttles → does f g (arrive i) ≡ false) →
+      All-home f g
   unfolding does arrives at-home
   all-home no-step no-arrival i l =
-      let stands : (j : ℕ) → j < f .shuttles → g j .moving ≡ false = λ j m. ⊎-elim (λ a. absurd (both-ways _ a (lt-ltb j (f .shuttles) m))) (λ a. a) (and-cases _ _ (no-arrival j m)) in
+      let stands : (j : ℕ) → j < f .shuttles →
+      g j .moving ≡ false = λ j m. ⊎-elim (λ a. absurd (both-ways _ a (lt-ltb j (f .shuttles) m))) (λ a. a)
+      (and-cases _ _ (no-arrival j m)) in
       let idle : is-empty (g i .route) ≡ true = ⊎-elim (λ e. e)
       (λ e. absurd (⊎-elim
       (λ (t : (j : ℕ) × (j < f .shuttles) × (g j .moving ≡ true)). both-ways _ (stands (t .0) (t .1)) (t .2))

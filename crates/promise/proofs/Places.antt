@@ -50,7 +50,8 @@ module _ (f : Field) (ok : sound f ≡ true) where
       ⊎-elim (λ q. q) (λ o. ⊎-elim (λ b. absurd (bay-new i j b m e)) (λ b. absurd (bay-new j i b l (sym e))) o) (cases-order i j)
 
   -- a route goes over nobody else's bay
-  pub route-avoids : (i j : ℕ) → i < f .shuttles → j < f .shuttles → (c : ℕ) (r : List ℕ) → route-ok f i c r ≡ true → among (f .bay j) r ≡ true → i ≡ j
+  pub route-avoids : (i j : ℕ) → i < f .shuttles → j < f .shuttles → (c : ℕ) (r : List ℕ) → route-ok f i c r ≡ true →
+      among (f .bay j) r ≡ true → i ≡ j
   unfolding among
   route-avoids i j l m c [] e a = absurd (both-ways false refl a)
   route-avoids i j l m c (d ∷ ds) e a =
@@ -67,7 +68,13 @@ module _ (f : Field) (ok : sound f ≡ true) where
   pub placed-home : (i : ℕ) → i < f .shuttles → Placed f i (at-home f i)
   unfolding at-home route-ok
   placed-home i l =
-      record { on-field = bay-fine i l .0; on-route = eq-eqb _ _ refl; comes-from = λ e. absurd (both-ways false refl e); stands-on = λ _. refl }
+      record {
+        on-field = bay-fine i l .0;
+        on-route = eq-eqb _ _ refl;
+        comes-from = λ e. absurd
+            (both-ways false refl e);
+        stands-on = λ _. refl;
+      }
 
 -- what a step makes of a shuttle with something left
 pub record Steps (s t : Shuttle) : Type 0 where
@@ -96,14 +103,36 @@ module _ {f : Field} {i : ℕ} {s : Shuttle} (p : Placed f i s) where
 
   pub placed-ordered : (r : List ℕ) → route-ok f i (s .at) r ≡ true → Placed f i (ordered s r)
   unfolding ordered
-  placed-ordered r e = record { on-field = p .on-field; on-route = e; comes-from = λ e. absurd (both-ways false refl e); stands-on = λ _. refl }
+  placed-ordered r e = record {
+    on-field = p .on-field;
+    on-route = e;
+    comes-from = λ e. absurd
+        (both-ways false refl e);
+    stands-on = λ _. refl;
+  }
 
   pub placed-stepped : is-empty (s .route) ≡ false → Placed f i (stepped s)
   placed-stepped e =
       let h = steps s e in
-      let m = route-tells f i (s .at) (stepped s .at) (stepped s .route) (subst (λ r. route-ok f i (s .at) r ≡ true) (h .left) (p .on-route)) in
-      record { on-field = m .free; on-route = m .after; comes-from = λ _. (subst (λ c. beside f c (stepped s .at) ≡ true) (sym (h .from)) (m .next-to), subst (λ c. free-square f c ≡ true) (sym (h .from)) (p .on-field)); stands-on = λ z. absurd (both-ways _ z (h .moves)) }
+      let m = route-tells f i (s .at) (stepped s .at) (stepped s .route)
+      (subst (λ r. route-ok f i (s .at) r ≡ true) (h .left) (p .on-route)) in
+      record {
+        on-field = m .free;
+        on-route = m .after;
+        comes-from = λ _. (
+          subst (λ c. beside f c (stepped s .at) ≡ true) (sym (h .from)) (m .next-to),
+          subst (λ c. free-square f c ≡ true) (sym (h .from))
+              (p .on-field),
+        );
+        stands-on = λ z. absurd (both-ways _ z (h .moves));
+      }
 
   pub placed-arrived : Placed f i (arrived s)
   unfolding arrived
-  placed-arrived = record { on-field = p .on-field; on-route = p .on-route; comes-from = λ e. absurd (both-ways false refl e); stands-on = λ _. refl }
+  placed-arrived = record {
+    on-field = p .on-field;
+    on-route = p .on-route;
+    comes-from = λ e. absurd
+        (both-ways false refl e);
+    stands-on = λ _. refl;
+  }

@@ -68,7 +68,8 @@ runs-to {g} (first i before after c r) = then-first i before after (clear-is g i
 -- the first that is clear is the one that is taken out
 first-clear-is : (g : Fleet) (all some : List ℕ) →
     ((first-clear g all some ≡ []) × (take-out (blocks shuttles g) nobody all some ≡ some))
-    ⊎ ((i : ℕ) × (first-clear g all some ≡ i ∷ []) × (take-out (blocks shuttles g) nobody all some ≡ without i some) × (clear-of g i all ≡ true))
+    ⊎ ((i : ℕ) × (first-clear g all some ≡ i ∷ []) × (take-out (blocks shuttles g) nobody all some ≡ without i some) ×
+    (clear-of g i all ≡ true))
 unfolding first-clear take-out without
 first-clear-is g all [] = inl (refl, refl)
 first-clear-is g all (x ∷ xs) =
@@ -92,9 +93,11 @@ try-is (suc m) g is =
     let next : (js : List ℕ) → tries m (blocks shuttles g) js ≡ try m g js = try-is m g in
     ⊎-elim
     (λ (t : (first-clear g is is ≡ []) × (take-out (blocks shuttles g) nobody is is ≡ is)).
-    ap (tries m (blocks shuttles g)) (t .1) ∙ ap nobody-left (stays m (blocks shuttles g) nobody is (t .1)) ∙ empty is ∙ ap (λ x. on-first x (λ i. try m g (without i is)) (is-empty is)) (sym (t .0)))
+    ap (tries m (blocks shuttles g)) (t .1) ∙ ap nobody-left (stays m (blocks shuttles g) nobody is (t .1)) ∙ empty is ∙ ap
+    (λ x. on-first x (λ i. try m g (without i is)) (is-empty is)) (sym (t .0)))
     (λ (t : (i : ℕ) × (first-clear g is is ≡ i ∷ []) × (take-out (blocks shuttles g) nobody is is ≡ without i is) × (clear-of g i is ≡ true)).
-    ap (tries m (blocks shuttles g)) (t .2) ∙ next (without (t .0) is) ∙ ap (λ x. on-first x (λ i. try m g (without i is)) (is-empty is)) (sym (t .1)))
+    ap (tries m (blocks shuttles g)) (t .2) ∙ next (without (t .0) is) ∙ ap (λ x. on-first x (λ i. try m g (without i is)) (is-empty is))
+    (sym (t .1)))
     (first-clear-is g is is)
   where
     empty : (is : List ℕ) → nobody-left is ≡ is-empty is
@@ -119,13 +122,15 @@ module _ (n : ℕ) (g : Fleet) where
   safe-all-go = (λ e. tries-all-go n (blocks shuttles g) .0 (tries-is ∙ e), λ f. sym tries-is ∙ tries-all-go n (blocks shuttles g) .1 f)
 
   -- a loop that takes out in any order, at its end: all is safe exactly if nobody is left
-  pub safe-by-set : (In : ℕ → Bool) → Others-go n (blocks shuttles g) nobody In → None-free n (blocks shuttles g) nobody In → Decides (safe n g) ((i : ℕ) → i < n → In i ≡ false)
+  pub safe-by-set : (In : ℕ → Bool) → Others-go n (blocks shuttles g) nobody In → None-free n (blocks shuttles g) nobody In →
+      Decides (safe n g) ((i : ℕ) → i < n → In i ≡ false)
   safe-by-set In o f = let d = set-tries n (blocks shuttles g) In o f in (λ e. d .0 (tries-is ∙ e), λ h. sym tries-is ∙ d .1 h)
 
 -- a shuttle holds what it holds
 pub holds-is : (s : Shuttle) (c : ℕ) → is-in c (shuttles .held s) ≡ holds s c
 unfolding is-in holds
-holds-is s c = ⊎-elim (λ (e : s .moving ≡ true). grind (arith, tells)) (λ (e : s .moving ≡ false). grind (arith, tells)) (cases-bool (s .moving))
+holds-is s c = ⊎-elim (λ (e : s .moving ≡ true). grind (arith, tells)) (λ (e : s .moving ≡ false). grind (arith, tells))
+    (cases-bool (s .moving))
 
 pub meets-one : (xs : List ℕ) (c : ℕ) → meets xs (c ∷ []) ≡ is-in c xs
 unfolding meets is-in
@@ -145,5 +150,7 @@ rule-is-the-same f g i =
     let s = stepped (g i) in
     let n = f .shuttles in
     let e = free-is n g i (next-square (g i .route)) in
-    let e′ : all-go shuttles n (with-agent g i s) ≡ safe n (put g i s) = same-test _ _ (λ h. safe-all-go n (put g i s) .1 (all-go-is shuttles n (put g i s) .0 h)) (λ h. all-go-is shuttles n (put g i s) .1 (safe-all-go n (put g i s) .0 h)) in
+    let e′ : all-go shuttles n (with-agent g i s) ≡ safe n (put g i s) = same-test _ _
+    (λ h. safe-all-go n (put g i s) .1 (all-go-is shuttles n (put g i s) .0 h))
+    (λ h. all-go-is shuttles n (put g i s) .1 (safe-all-go n (put g i s) .0 h)) in
     grind (arith, e, e′)

@@ -10,7 +10,8 @@ use Rattle.rules.specs.Shuttle.{Shuttle, Fleet, next-square, stepped}
 use Rattle.rules.specs.Event.{grants}
 use Rattle.agents.specs.Kinds.{Kind, may}
 
--- a shuttle holds its square and while it moves the one behind, settles on its square, needs what is left of its route, and is idle with nothing left; none is ever closed
+-- a shuttle holds its square and while it moves the one behind, settles on its square, needs what is left of its route, and is idle with
+-- nothing left; none is ever closed
 abbrev pub shuttles : Kind Shuttle
 shuttles =
     record {
