@@ -22,12 +22,12 @@ Says zero f m e n m₁ =
     ⊎ ((n ≡ 1) × (does f (shuttle-in m) e ≡ false) × (m₁ ≡ m))
 Says (suc k) f m e n m₁ = (n ≡ 16 + suc k) × (m₁ ≡ m)
 
--- what writing a shuttle into memory does: that shuttle is read as written, every other as it was; the length and each place that isn't needed stay
+-- what writing a shuttle into memory does: that shuttle is read as written, and any other that has room for what is left of it as it was; the length stays, and each place outside the numbers written
 pub record Written (m : List ℕ) (i : ℕ) (s : Shuttle) : Type 0 where
-  pub reads : (j : ℕ) → shuttle-in (stored m i s) j ≡ put (shuttle-in m) i s j
+  pub its-own : shuttle-in (stored m i s) i ≡ s
+  pub others : (j : ℕ) → (j ≡ i → ⊥) → getD m (260 * j + 3) 0 ≤ 256 → shuttle-in (stored m i s) j ≡ shuttle-in m j
   pub same-length : length (stored m i s) ≡ length m
-  pub rest : (j k : ℕ) → length (put (shuttle-in m) i s j .route) ≤ k → k < 256
-      → getD (stored m i s) (260 * j + (4 + k)) 0 ≡ getD m (260 * j + (4 + k)) 0
+  pub rest : (p : ℕ) → (p < 260 * i) ⊎ (260 * i + (4 + length (s .route)) ≤ p) → getD (stored m i s) p 0 ≡ getD m p 0
 
 -- memory of n shuttles keeps apart what is written of each
 abbrev pub Stored-is-read : Type 0

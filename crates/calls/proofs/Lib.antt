@@ -1,0 +1,3 @@
+-- Proofs about memory and calls.
+pub mod Stored
+pub mod Accepted
