@@ -122,14 +122,19 @@ stepped-fits squares s (c ∷ cs) e h =
     let over = and-parts _ _ (rw e at (h .over)) in
     record { short = omega (arith, h .short, ap length e); on = ltb-true _ _ (over .0); from = h .on; over = over .1 }
 
+-- an event that happens is one of a shuttle that is there
+pub does-there : (f : Field) (g : Fleet) (e : Event) → does f g e ≡ true → who e < f .shuttles
+unfolding does takes grants arrives who
+does-there f g (order i r) h = grind (arith, tells)
+does-there f g (step i) h = grind (arith, tells)
+does-there f g (arrive i) h = grind (arith, tells)
+
 -- what an event that happens makes of a shuttle that fits
 pub becomes-fits : (f : Field) (g : Fleet) (e : Event) → does f g e ≡ true → Fits (f .across * f .down) (g (who e))
-    → (who e < f .shuttles) × Fits (f .across * f .down) (becomes e (g (who e)))
-unfolding does takes grants arrives who becomes ordered stepped arrived
+    → Fits (f .across * f .down) (becomes e (g (who e)))
+unfolding does takes who becomes ordered stepped arrived
 becomes-fits f g (order i r) h fits =
     let good : route-ok f i (g i .at) r ≡ true = grind (arith, tells) in
-    (grind (arith, tells),
-      record { short = grind (arith, tells); on = fits .on; from = fits .on; over = route-squares f i (g i .at) r good })
-becomes-fits f g (step i) h fits = (ltb-true _ _ (and-parts _ _ h .0), stepped-fits _ (g i) (g i .route) refl fits)
-becomes-fits f g (arrive i) h fits =
-    (ltb-true _ _ (and-parts _ _ h .0), record { short = fits .short; on = fits .on; from = fits .on; over = fits .over })
+    record { short = grind (arith, tells); on = fits .on; from = fits .on; over = route-squares f i (g i .at) r good }
+becomes-fits f g (step i) h fits = stepped-fits _ (g i) (g i .route) refl fits
+becomes-fits f g (arrive i) h fits = record { short = fits .short; on = fits .on; from = fits .on; over = fits .over }
