@@ -3,3 +3,5 @@ pub mod Stored
 pub mod Accepted
 pub mod Refusal
 pub mod Follow
+pub mod Keep
+pub mod Sum

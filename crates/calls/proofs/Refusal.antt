@@ -33,7 +33,9 @@ module _ (a d : ℕ) (ws bs : List ℕ) (ok : field-ok a d ws bs ≡ true) where
 
   field-small : a * d ≤ 4096
   unfolding field-ok
-  field-small = mul-le-mul {b = 64} {d = 64} (grind (arith, tells)) (grind (arith, tells))
+  field-small =
+      let p : a ≤ 64 = grind (arith, tells) in
+      let q : d ≤ 64 = grind (arith, tells) in mul-le-mul p q
 
   -- an event whose route stays on the field
   pub event-none : (kind i : ℕ) (r : List ℕ) → kind ≤ 2 → i < length bs → length r ≤ 256
