@@ -3,5 +3,6 @@ pub mod Stored
 pub mod Accepted
 pub mod Refusal
 pub mod Follow
+pub mod Row
 pub mod Keep
 pub mod Sum

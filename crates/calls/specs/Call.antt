@@ -1,6 +1,6 @@
 -- What a call of the entry answers and leaves, memory that calls have led to, and what is promised of it.
 use mathlib.Core.Path.{_≡_}
-use mathlib.Core.Bool.{Bool, true, false}
+use mathlib.Core.Bool.{Bool, true, false, _&&_}
 use mathlib.Core.List.{List, [], _∷_}
 use mathlib.Core.Logic.{_⊎_}
 use Prim.Native.Nat.{ℕ, zero, suc, _+_, _*_, _≤_, _<_}
@@ -10,9 +10,9 @@ use Rattle.rules.specs.Field.{Field}
 use Rattle.rules.specs.Route.{route-ok}
 use Rattle.rules.specs.Shuttle.{Shuttle, Fleet, holds, put}
 use Rattle.rules.specs.Safe.{Safe}
-use Rattle.rules.specs.Event.{Event, does, who, becomes, happens, after}
+use Rattle.rules.specs.Event.{Event, order, step, arrive, does, who, becomes, happens, after}
 use Rattle.promise.specs.Promise.{All-home, Placed, sum-to, squares-left}
-use Rattle.rules.specs.Memory.{field-in, field-ok, shuttle-in, memory-ok, event-in, refusal, stored, started}
+use Rattle.rules.specs.Memory.{field-in, field-ok, shuttle-in, memory-ok, event-ok, event-in, refusal, stored, started}
 
 -- the number of an answer: 0 it happened, 1 it did not, 16 + k it is turned away by k
 -- what a call with this refusal (0: none) answers, as a number, and the memory that it leaves
@@ -60,6 +60,28 @@ abbrev pub Follows : Type 0
 Follows =
     (a d : ℕ) (ws bs : List ℕ) (es : List Event) (m : List ℕ) → Played a d ws bs es m
     → (memory-ok (a * d) (length bs) m ≡ true) × ((i : ℕ) → shuttle-in m i ≡ after (field-in a d ws bs) es i)
+
+-- the kind of an event's call, and the route that is handed over with it
+unfoldable pub kind-of : Event → ℕ
+kind-of (order i r) = 0
+kind-of (step i) = 1
+kind-of (arrive i) = 2
+
+unfoldable pub route-of : Event → List ℕ
+route-of (order i r) = r
+route-of (step i) = []
+route-of (arrive i) = []
+
+-- the calls of these events are accepted where there are n shuttles
+unfoldable pub events-ok : ℕ → List Event → Bool
+events-ok n [] = true
+events-ok n (e ∷ es) = event-ok n (kind-of e) (who e) (route-of e) && events-ok n es
+
+-- each row of accepted events is that of some calls, so that what is promised of memory is promised after each such row
+abbrev pub Row-is-played : Type 0
+Row-is-played =
+    (a d : ℕ) (ws bs : List ℕ) (es : List Event) → field-ok a d ws bs ≡ true → events-ok (length bs) es ≡ true
+    → (m : List ℕ) × Played a d ws bs es m
 
 -- a call with this memory and this event is answered: it happened
 abbrev pub Is-done : (across down : ℕ) → (walls bays memory : List ℕ) → (kind shuttle : ℕ) → (route : List ℕ) → Type 0

@@ -1,6 +1,6 @@
 // The promises over memory and calls. Each function says one of them in its contract, so that the check asks for its
 // proof; it computes nothing.
-ghost use Rattle.calls.specs.Call.{Stored-is-read, Stays-accepted, Follows, Keeps-promises, Step-leaves-less};
+ghost use Rattle.calls.specs.Call.{Stored-is-read, Stays-accepted, Follows, Row-is-played, Keeps-promises, Step-leaves-less};
 
 // Writing one shuttle into memory changes that shuttle and nothing else.
 pub fn stored_is_read_stands() -> u8
@@ -19,6 +19,13 @@ pub fn stays_accepted_stands() -> u8
 // Memory is what the row of events makes of the hall.
 pub fn follows_stands() -> u8
     ensures { λ _. ⌜ Follows ⌝ }
+{
+    0
+}
+
+// Each row of accepted events is that of some calls.
+pub fn row_is_played_stands() -> u8
+    ensures { λ _. ⌜ Row-is-played ⌝ }
 {
     0
 }
