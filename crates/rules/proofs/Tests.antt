@@ -1,13 +1,15 @@
 -- What the small tests tell, both ways.
-use mathlib.Core.Path.{_≡_, refl}
+use mathlib.Core.Path.{_≡_, refl, sym, ap, _∙_}
 use mathlib.Core.Bool.{Bool, true, false, _&&_, _||_}
 use mathlib.Core.List.{List, [], _∷_, _++_}
 use mathlib.Core.Logic.{_⊎_, inl, inr, ⊎-elim}
-use Prim.Native.Nat.{ℕ, zero, suc, _+_, _<_}
+use Prim.Native.Nat.{ℕ, zero, suc, _+_, _<_, _≤_, max}
+use native.Mathlib.Numerals.{add-one}
 use native.Mathlib.Omega.{arith}
-use lib.Dec.{eqb}
-use lib.ListN.{length, getD}
+use lib.Dec.{eqb, leb, ltb}
+use lib.ListN.{length, getD, take}
 use Rattle.std.proofs.shelf.Tests.{and-parts, and-from, or-cases, or-parts, or-from, or-left, or-right, cases-eq, cases-bool, eqb-true, both-ways}
+use Rattle.std.proofs.shelf.Lists.{take-more, take-all}
 use Rattle.std.proofs.shelf.Ways.{tells, decides-below-and, decides-below-or}
 use Rattle.rules.specs.Tests.{every-to, any-to, every, among, is-empty}
 
@@ -34,7 +36,7 @@ any-to-none p n h k l =
 pub any-to-nowhere : (p : ℕ → Bool) (n : ℕ) → ((k : ℕ) → k < n → p k ≡ false) → any-to p n ≡ false
 any-to-nowhere p n h =
     ⊎-elim (λ e. let w = any-to-tells p n e in absurd (both-ways (p (w .0)) (h (w .0) (w .1)) (w .2))) (λ e. e)
-      (cases-bool (any-to p n))
+    (cases-bool (any-to p n))
 
 -- one number more
 pub every-to-more : (p : ℕ → Bool) (n : ℕ) → every-to p (suc n) ≡ (p n && every-to p n)
@@ -91,7 +93,7 @@ unfolding among
 among-tells x [] h = absurd (both-ways false refl h)
 among-tells x (y ∷ ys) h =
     ⊎-elim (λ e. (0, omega arith, let q = eqb-true x y e in omega arith))
-      (λ e. let w = among-tells x ys e in (suc (w .0), omega (arith, w .1), w .2)) (or-cases (eqb x y) (among x ys) h)
+    (λ e. let w = among-tells x ys e in (suc (w .0), omega (arith, w .1), w .2)) (or-cases (eqb x y) (among x ys) h)
 
 pub among-from : (x : ℕ) (ys : List ℕ) (k : ℕ) → k < length ys → getD ys k 0 ≡ x → among x ys ≡ true
 unfolding among
@@ -114,3 +116,43 @@ pub empty-is : (xs : List ℕ) → is-empty xs ≡ eqb (length xs) 0
 unfolding is-empty
 empty-is [] = refl
 empty-is (x ∷ xs) = grind (arith, tells)
+
+-- one element more of a front that is tested, and all of it
+pub every-take-more : (p : ℕ → Bool) (xs : List ℕ) (k : ℕ) → k < length xs
+    → every p (take (k + 1) xs) ≡ (every p (take k xs) && p (getD xs k 0))
+unfolding every
+every-take-more p xs k l =
+    ap (every p) (take-more xs k 0 l) ∙ every-append p (take k xs) (getD xs k 0 ∷ []) ∙ grind (arith, tells)
+
+pub every-take-all : (p : ℕ → Bool) (xs : List ℕ) (k : ℕ) → length xs ≤ k → every p (take k xs) ≡ every p xs
+every-take-all p xs k l = ap (every p) (take-all k xs l)
+
+-- a test that the larger of two passes exactly if both do is passed by a running maximum exactly if each passes
+pub max-more : (p : ℕ → Bool) → ((a b : ℕ) → p (max a b) ≡ (p a && p b)) → (xs : List ℕ) (most k : ℕ) → k < length xs
+    → p most ≡ every p (take k xs) → p (max most (getD xs k 0)) ≡ every p (take (k + 1) xs)
+max-more p join xs most k l h = join most (getD xs k 0) ∙ (rw h (sym (every-take-more p xs k l)))
+
+pub leb-max : (n a b : ℕ) → leb (max a b) n ≡ (leb a n && leb b n)
+leb-max n a b = grind (arith, tells)
+
+pub ltb-max : (n a b : ℕ) → ltb (max a b) n ≡ (ltb a n && ltb b n)
+ltb-max n a b = grind (arith, tells)
+
+pub every-to-broken : (p : ℕ → Bool) (n k : ℕ) → k < n → p k ≡ false → every-to p n ≡ false
+every-to-broken p n k l h =
+    ⊎-elim (λ e. absurd (both-ways (p k) h (every-to-tells p n e k l))) (λ e. e) (cases-bool (every-to p n))
+
+-- a loop that counts up: none yet, and one more
+pub every-to-none : (p : ℕ → Bool) → every-to p 0 ≡ true
+unfolding every-to
+every-to-none p = refl
+
+pub any-to-none-yet : (p : ℕ → Bool) → any-to p 0 ≡ false
+unfolding any-to
+any-to-none-yet p = refl
+
+pub every-to-next : (p : ℕ → Bool) (n : ℕ) → p n ≡ true → every-to p n ≡ true → every-to p (n + 1) ≡ true
+every-to-next p n h r = rw (add-one, every-to-more p n) (and-from (p n) (every-to p n) h r)
+
+pub any-to-next : (p : ℕ → Bool) (n : ℕ) → p n ≡ false → any-to p n ≡ false → any-to p (n + 1) ≡ false
+any-to-next p n h r = rw (add-one, any-to-more p n) (or-from (p n) (any-to p n) h r)
