@@ -15,11 +15,12 @@ use Rattle.rules.specs.Field.{Field, free-square, sound}
 use Rattle.rules.specs.Shuttle.{Shuttle, Fleet, put, at-home}
 use Rattle.rules.specs.Event.{Event, does, who, becomes, happens, after}
 use Rattle.rules.specs.Memory.{field-in, field-ok, shuttle-in, shuttle-ok, memory-ok, event-in, refusal, stored, started}
-use Rattle.rules.proofs.Tests.{every-to-tells, every-to-from}
+use Rattle.rules.proofs.Tests.{every-to-from}
+use Rattle.rules.proofs.Fields.{sound-tells, accepted}
 use Rattle.calls.specs.Call.{Says, Played, begun, more, refused, Stays-accepted, Follows}
 use Rattle.calls.proofs.Stored.{stored-length}
 use Rattle.calls.proofs.Accepted.{Fits, ok-room, ok-fits, stored-ok, stored-reads, accepted-each, write-accepted, write-reads, does-there, becomes-fits}
-use Rattle.calls.proofs.Refusal.{refusal-none, field-sound}
+use Rattle.calls.proofs.Refusal.{refusal-none}
 
 -- the fleet after an event that happens, and after one that does not
 pub happens-done : (f : Field) (g : Fleet) (e : Event) → does f g e ≡ true → happens f g e ≡ put g (who e) (becomes e (g (who e)))
@@ -58,10 +59,8 @@ stays-accepted a d ws bs m kind i r n m₁ none (inr h) =
 
 -- a bay is a square
 bay-square : (f : Field) → sound f ≡ true → (i : ℕ) → i < f .shuttles → f .bay i < f .across * f .down
-unfolding sound free-square
-bay-square f h i l =
-    let each : every-to (λ i. free-square f (f .bay i) && not (Rattle.rules.specs.Field.is-bay-to f i (f .bay i))) (f .shuttles) ≡ true = grind (arith, tells) in
-    let here = every-to-tells _ (f .shuttles) each i l in grind (arith, tells)
+unfolding free-square
+bay-square f h i l = ltb-true _ _ (and-parts _ _ (sound-tells f h .bay-free i l) .0)
 
 -- a shuttle at home fits
 home-fits : (f : Field) → sound f ≡ true → (i : ℕ) → i < f .shuttles → Fits (f .across * f .down) (at-home f i)
@@ -111,7 +110,7 @@ pub started-holds : (a d : ℕ) (ws bs m : List ℕ) → field-ok a d ws bs ≡ 
     → Holds a d bs (started (field-in a d ws bs) (length bs) m) (at-home (field-in a d ws bs))
 unfolding field-in memory-ok
 started-holds a d ws bs m ok len =
-    let all = started-is (field-in a d ws bs) (length bs) m (field-sound a d ws bs ok) (omega arith) (omega arith) in
+    let all = started-is (field-in a d ws bs) (length bs) m (accepted a d ws bs ok .is-sound) (omega arith) (omega arith) in
     (and-from _ _ (eq-eqb _ _ (all .as-long ∙ len)) (every-to-from _ (length bs) (all .each-ok)),
       λ j. ⊎-elim (λ l. all .each-home j l) (λ l. past-home a d ws bs _ j (omega (arith, all .as-long)) l) (cases-lt j (length bs)))
 

@@ -15,10 +15,11 @@ use Rattle.rules.specs.Shuttle.{Shuttle, Fleet, holds, at-home}
 use Rattle.rules.specs.Safe.{Safe}
 use Rattle.rules.specs.Event.{Event, order, step, arrive, does, who, becomes, after}
 use Rattle.rules.specs.Memory.{field-in, shuttle-in, event-in, refusal, stored}
+use Rattle.rules.proofs.Fields.{accepted}
 use Rattle.promise.specs.Promise.{Apart, Always-safe, Never-stuck, Way-home, Always-taken, Always-placed, All-home, Placed, Drives, nothing, then, no-order}
 use Rattle.calls.specs.Call.{Says, Played, more, Is-done, Driven, here, on, Promised, Keeps-promises}
 use Rattle.calls.proofs.Accepted.{route-squares, does-there}
-use Rattle.calls.proofs.Refusal.{none-refusal, field-sound, event-none}
+use Rattle.calls.proofs.Refusal.{none-refusal, event-none}
 use Rattle.calls.proofs.Follow.{follows, played-field}
 
 -- the call for an event that happens after the row is answered: it happened
@@ -64,7 +65,7 @@ pub keeps-promises-from : Apart → Always-safe → Never-stuck → Way-home →
 unfolding field-in event-in does every
 keeps-promises-from apart always-safe stuck home taken always-placed a d ws bs m (es, played) =
     let f : Field = field-in a d ws bs in
-    let can : sound f ≡ true = field-sound a d ws bs (played-field a d ws bs es m played) in
+    let can : sound f ≡ true = accepted a d ws bs (played-field a d ws bs es m played) .is-sound in
     let now : (j : ℕ) → shuttle-in m j ≡ after f es j = follows a d ws bs es m played .1 in
     record {
       apart = λ i j c l k ne p q.

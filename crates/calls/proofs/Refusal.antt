@@ -10,9 +10,9 @@ use lib.ListN.{length}
 use Rattle.std.proofs.shelf.Tests.{ltb-true, le-leb}
 use Rattle.std.proofs.shelf.Ways.{tells}
 use Rattle.rules.specs.Tests.{every}
-use Rattle.rules.specs.Field.{Field, sound}
-use Rattle.rules.specs.Memory.{field-in, field-ok, memory-ok, event-ok, refusal}
+use Rattle.rules.specs.Memory.{field-ok, memory-ok, event-ok, refusal}
 use Rattle.rules.proofs.Tests.{every-imp}
+use Rattle.rules.proofs.Fields.{accepted}
 
 module _ (a d : ℕ) (ws bs m : List ℕ) (kind i : ℕ) (r : List ℕ) where
   -- field, memory and event are accepted
@@ -27,15 +27,8 @@ module _ (a d : ℕ) (ws bs m : List ℕ) (kind i : ℕ) (r : List ℕ) where
   none-refusal p q h = grind (arith, tells)
 
 module _ (a d : ℕ) (ws bs : List ℕ) (ok : field-ok a d ws bs ≡ true) where
-  pub field-sound : sound (field-in a d ws bs) ≡ true
-  unfolding field-ok
-  field-sound = grind (arith, tells)
-
   field-small : a * d ≤ 4096
-  unfolding field-ok
-  field-small =
-      let p : a ≤ 64 = grind (arith, tells) in
-      let q : d ≤ 64 = grind (arith, tells) in mul-le-mul p q
+  field-small = let h = accepted a d ws bs ok in mul-le-mul (h .across-most) (h .down-most)
 
   -- an event whose route stays on the field
   pub event-none : (kind i : ℕ) (r : List ℕ) → kind ≤ 2 → i < length bs → length r ≤ 256
