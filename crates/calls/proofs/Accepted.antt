@@ -1,24 +1,24 @@
 -- Memory that is accepted stays accepted when a shuttle that fits is written, and what an event makes of a shuttle fits.
 use mathlib.Core.Path.{_≡_, refl, sym, _∙_, ap}
-use mathlib.Core.Bool.{Bool, true, false, _&&_, cond}
+use mathlib.Core.Bool.{Bool, true, false}
 use mathlib.Core.List.{List, [], _∷_}
-use mathlib.Core.Logic.{_⊎_, inl, inr, ⊎-elim}
-use Prim.Native.Nat.{ℕ, zero, suc, _+_, _*_, _≤_, _<_}
+use mathlib.Core.Logic.{⊎-elim}
+use Prim.Native.Nat.{ℕ, _+_, _*_, _≤_, _<_}
 use native.Mathlib.Nat.{add-zero}
 use native.Mathlib.Omega.{arith}
-use lib.Dec.{eqb, ltb, leb, lit≤}
-use lib.ListN.{length, getD, take, drop}
+use lib.Dec.{ltb, lit≤}
+use lib.ListN.{length, getD}
 use Rattle.std.proofs.shelf.Lists.{length-take, getD-past}
 use Rattle.std.proofs.shelf.Tests.{and-parts, and-from, cases-eq, cases-lt, cond-true, cond-false, eq-eqb, eqb-true, ne-eqb, ltb-true, lt-ltb, leb-true, le-leb}
 use Rattle.std.proofs.shelf.Ways.{tells}
-use Rattle.rules.specs.Tests.{every, every-to}
+use Rattle.rules.specs.Tests.{every}
 use Rattle.rules.specs.Field.{Field, free-square}
 use Rattle.rules.specs.Route.{step-ok, route-ok}
 use Rattle.rules.specs.Shuttle.{Shuttle, Fleet, put, ordered, stepped, stepped-to, arrived}
 use Rattle.rules.specs.Event.{Event, order, step, arrive, takes, grants, arrives, does, who, becomes}
 use Rattle.rules.specs.Memory.{shuttle-in, shuttle-ok, memory-ok, mark, numbers-of, stored}
 use Rattle.rules.proofs.Tests.{every-to-tells, every-to-from}
-use Rattle.calls.proofs.Stored.{same-ok, stored-at, stored-length, stored-own, stored-route, stored-same, written}
+use Rattle.calls.proofs.Stored.{same-ok, stored-at, stored-length, stored-route, stored-same, written}
 
 -- a shuttle whose numbers are accepted where there are so many squares
 pub record Fits (squares : ℕ) (s : Shuttle) : Type 0 where

@@ -1,20 +1,19 @@
 -- What a call leaves is accepted and is what the event makes of the hall; so memory follows the row of events.
 use mathlib.Core.Path.{_≡_, refl, sym, _∙_, ap, subst, fun-ext}
-use mathlib.Core.Bool.{Bool, true, false, cond, _&&_, not}
-use mathlib.Core.List.{List, [], _∷_}
-use mathlib.Core.Logic.{_⊎_, inl, inr, ⊎-elim}
+use mathlib.Core.Bool.{true, false}
+use mathlib.Core.List.{List}
+use mathlib.Core.Logic.{inl, inr, ⊎-elim}
 use Prim.Native.Nat.{ℕ, zero, suc, _+_, _*_, _≤_, _<_}
 use native.Mathlib.Omega.{arith}
-use lib.Dec.{eqb, ltb, leb, lit≤}
-use lib.ListN.{length, getD, take, drop}
+use lib.Dec.{eqb, lit≤}
+use lib.ListN.{length, take, drop}
 use Rattle.std.proofs.shelf.Lists.{getD-past}
 use Rattle.std.proofs.shelf.Tests.{and-parts, and-from, cases-eq, cases-lt, cond-true, cond-false, eq-eqb, ne-eqb, ltb-true}
-use Rattle.std.proofs.shelf.Ways.{tells}
-use Rattle.rules.specs.Tests.{every, every-to}
+use Rattle.rules.specs.Tests.{every}
 use Rattle.rules.specs.Field.{Field, free-square, sound}
-use Rattle.rules.specs.Shuttle.{Shuttle, Fleet, put, at-home}
+use Rattle.rules.specs.Shuttle.{Fleet, put, at-home}
 use Rattle.rules.specs.Event.{Event, does, who, becomes, happens, after}
-use Rattle.rules.specs.Memory.{field-in, field-ok, shuttle-in, shuttle-ok, memory-ok, event-in, refusal, stored, started}
+use Rattle.rules.specs.Memory.{field-in, field-ok, shuttle-in, shuttle-ok, memory-ok, event-in, stored, started}
 use Rattle.rules.proofs.Tests.{every-to-from}
 use Rattle.rules.proofs.Fields.{sound-tells, accepted}
 use Rattle.calls.specs.Call.{Says, Played, begun, more, refused, Stays-accepted, Follows}

@@ -1,23 +1,21 @@
 -- Memory that calls have led to keeps every promise, from what is promised of every row of events.
 use mathlib.Core.Path.{_≡_, refl, sym, _∙_, ap, subst, fun-ext}
-use mathlib.Core.Bool.{Bool, true, false}
+use mathlib.Core.Bool.{true, false}
 use mathlib.Core.List.{List, [], _∷_, _++_}
-use mathlib.Core.Logic.{_⊎_, inl, inr, ⊎-elim}
-use Prim.Native.Nat.{ℕ, zero, suc, _+_, _*_, _≤_, _<_}
-use native.Mathlib.Omega.{arith}
+use mathlib.Core.Logic.{inl, inr, ⊎-elim}
+use Prim.Native.Nat.{ℕ, _*_, _≤_, _<_}
 use lib.Dec.{ltb, lit≤}
 use lib.ListN.{length, getD}
 use Rattle.std.proofs.shelf.Tests.{both-ways}
 use Rattle.rules.specs.Tests.{every, is-empty}
 use Rattle.rules.specs.Field.{Field, sound}
-use Rattle.rules.specs.Route.{route-ok}
-use Rattle.rules.specs.Shuttle.{Shuttle, Fleet, holds, at-home}
+use Rattle.rules.specs.Shuttle.{holds}
 use Rattle.rules.specs.Safe.{Safe}
 use Rattle.rules.specs.Event.{Event, order, step, arrive, does, who, becomes, after}
-use Rattle.rules.specs.Memory.{field-in, shuttle-in, event-in, refusal, stored}
+use Rattle.rules.specs.Memory.{field-in, shuttle-in, event-in, stored}
 use Rattle.rules.proofs.Fields.{accepted}
-use Rattle.promise.specs.Promise.{Apart, Always-safe, Never-stuck, Way-home, Always-taken, Always-placed, All-home, Placed, Drives, nothing, then, no-order}
-use Rattle.calls.specs.Call.{Says, Played, more, Is-done, Driven, here, on, Promised, Keeps-promises}
+use Rattle.promise.specs.Promise.{Apart, Always-safe, Never-stuck, Way-home, Always-taken, Always-placed, Placed, Drives, nothing, then, no-order}
+use Rattle.calls.specs.Call.{Says, Played, more, Is-done, Driven, here, on, Keeps-promises}
 use Rattle.calls.proofs.Accepted.{route-squares, does-there}
 use Rattle.calls.proofs.Refusal.{none-refusal, event-none}
 use Rattle.calls.proofs.Follow.{follows, played-field}

@@ -1,6 +1,6 @@
 -- Each row of accepted events is that of some calls.
 use mathlib.Core.Path.{_≡_, refl}
-use mathlib.Core.Bool.{Bool, true, false}
+use mathlib.Core.Bool.{true}
 use mathlib.Core.List.{List, [], _∷_}
 use mathlib.Core.Logic.{inl, inr, ⊎-elim}
 use Prim.Native.Nat.{ℕ, _*_}
@@ -8,7 +8,7 @@ use lib.ListN.{length, replicate}
 use Rattle.std.proofs.shelf.Lists.{length-replicate}
 use Rattle.std.proofs.shelf.Tests.{and-parts, cases-bool}
 use Rattle.rules.specs.Event.{Event, order, step, arrive, does, who, becomes}
-use Rattle.rules.specs.Memory.{field-in, field-ok, shuttle-in, event-ok, event-in, stored}
+use Rattle.rules.specs.Memory.{field-in, shuttle-in, event-ok, event-in, stored}
 use Rattle.calls.specs.Call.{Says, Played, begun, more, kind-of, route-of, events-ok, Row-is-played}
 use Rattle.calls.proofs.Refusal.{none-refusal}
 use Rattle.calls.proofs.Follow.{follows, played-field}

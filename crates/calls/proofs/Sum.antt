@@ -1,18 +1,17 @@
 -- What is left in sum, after a shuttle has changed; so a granted step leaves one square less.
 use mathlib.Core.Path.{_≡_, refl, sym, _∙_, ap, subst, fun-ext}
-use mathlib.Core.Bool.{Bool, true, false, cond, not, _&&_}
+use mathlib.Core.Bool.{true, false}
 use mathlib.Core.List.{List, [], _∷_}
-use mathlib.Core.Logic.{_⊎_, inl, inr, ⊎-elim}
-use Prim.Native.Nat.{ℕ, zero, suc, _+_, _*_, _≤_, _<_}
+use mathlib.Core.Logic.{inl, inr, ⊎-elim}
+use Prim.Native.Nat.{ℕ, zero, suc, _+_, _≤_, _<_}
 use native.Mathlib.Omega.{arith}
-use lib.Dec.{eqb, ltb}
 use lib.ListN.{length}
 use Rattle.std.proofs.shelf.Tests.{cond-true, cond-false, eq-eqb, ne-eqb, cases-eq, both-ways}
 use Rattle.std.proofs.shelf.Ways.{tells}
 use Rattle.rules.specs.Tests.{is-empty}
 use Rattle.rules.specs.Field.{Field}
 use Rattle.rules.specs.Shuttle.{Shuttle, Fleet, put, stepped, stepped-to}
-use Rattle.rules.specs.Event.{Event, step, grants, does, who, becomes, happens}
+use Rattle.rules.specs.Event.{step, grants, does, who, becomes}
 use Rattle.rules.specs.Memory.{field-in, shuttle-in, event-in}
 use Rattle.promise.specs.Promise.{sum-to, squares-left}
 use Rattle.calls.specs.Call.{Says, Step-leaves-less}

@@ -8,7 +8,7 @@ use lib.ListN.{length, getD}
 use Rattle.rules.specs.Tests.{is-empty}
 use Rattle.rules.specs.Field.{Field}
 use Rattle.rules.specs.Route.{route-ok}
-use Rattle.rules.specs.Shuttle.{Shuttle, Fleet, holds, put}
+use Rattle.rules.specs.Shuttle.{Shuttle, holds}
 use Rattle.rules.specs.Safe.{Safe}
 use Rattle.rules.specs.Event.{Event, order, step, arrive, does, who, becomes, happens, after}
 use Rattle.promise.specs.Promise.{All-home, Placed, sum-to, squares-left}

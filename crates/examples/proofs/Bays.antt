@@ -1,15 +1,15 @@
 -- Nobody's route leads over another's bay.
-use mathlib.Core.Path.{_≡_, refl, sym, _∙_, ap}
-use mathlib.Core.Bool.{Bool, true, false, _&&_, _||_, not}
-use mathlib.Core.List.{List, [], _∷_}
-use mathlib.Core.Logic.{_⊎_, inl, inr, ⊎-elim}
+use mathlib.Core.Path.{_≡_, refl, sym, _∙_}
+use mathlib.Core.Bool.{true}
+use mathlib.Core.List.{[], _∷_}
+use mathlib.Core.Logic.{⊎-elim}
 use Prim.Native.Nat.{ℕ, _<_}
 use native.Mathlib.Omega.{arith}
 use lib.Dec.{eqb}
-use Rattle.std.proofs.shelf.Tests.{cases-order, cases-bool, both-ways, eq-eqb, eqb-true, not-true, or-from, ne-eqb, and-parts}
+use Rattle.std.proofs.shelf.Tests.{cases-order, both-ways, eq-eqb, eqb-true, or-from, ne-eqb, and-parts}
 use Rattle.std.proofs.shelf.Ways.{tells}
-use Rattle.rules.specs.Tests.{every-to, any-to, among}
-use Rattle.rules.specs.Field.{Field, is-bay-to, is-bay, free-square, sound}
+use Rattle.rules.specs.Tests.{among}
+use Rattle.rules.specs.Field.{Field, is-bay-to, is-bay, sound}
 use Rattle.rules.specs.Route.{step-ok, route-ok}
 use Rattle.rules.proofs.Tests.{any-to-from}
 use Rattle.rules.proofs.Fields.{sound-tells}

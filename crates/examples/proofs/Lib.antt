@@ -2,3 +2,4 @@
 pub mod Open
 pub mod Bays
 pub mod Reached
+pub mod Unsafe

@@ -1,14 +1,12 @@
 -- Memory in which a shuttle moves, has squares left, and another's step is not granted.
-use mathlib.Core.Path.{_≡_, refl, sym, _∙_, ap, subst, fun-ext}
-use mathlib.Core.Bool.{Bool, true, false}
+use mathlib.Core.Path.{refl, ap, fun-ext}
 use mathlib.Core.List.{List, [], _∷_}
-use Prim.Native.Nat.{ℕ}
-use Rattle.rules.specs.Event.{Event, order, step, arrive, does}
+use Rattle.rules.specs.Event.{Event, order, step, does}
 use Rattle.rules.specs.Memory.{field-in, event-in}
 use Rattle.calls.proofs.Refusal.{none-refusal}
 use Rattle.calls.proofs.Follow.{follows}
 use Rattle.calls.proofs.Row.{row-is-played}
-use Rattle.examples.specs.Reach.{row-walls, row-bays, Busy, Busy-is-reached}
+use Rattle.examples.specs.Reach.{row-walls, row-bays, Busy-is-reached}
 use Rattle.examples.proofs.Open.{rules}
 
 -- both are given routes over the square between them, and shuttle 0 steps

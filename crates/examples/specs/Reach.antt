@@ -1,11 +1,10 @@
 -- What is promised of reached memory is promised of something: some is reached with a shuttle that has squares left, that moves, and whose step is refused.
 use mathlib.Core.Path.{_≡_}
-use mathlib.Core.Bool.{Bool, true, false}
+use mathlib.Core.Bool.{true, false}
 use mathlib.Core.List.{List, [], _∷_}
-use Prim.Native.Nat.{ℕ, zero, suc, _<_}
-use Rattle.rules.specs.Tests.{is-empty}
-use Rattle.rules.specs.Field.{Field, sound}
-use Rattle.rules.specs.Event.{Event, order, step, arrive, does}
+use Prim.Native.Nat.{ℕ}
+use Rattle.rules.specs.Field.{sound}
+use Rattle.rules.specs.Event.{does}
 use Rattle.rules.specs.Memory.{field-in, field-ok, shuttle-in, event-in, refusal}
 use Rattle.calls.specs.Call.{Reached}
 

@@ -1,6 +1,6 @@
 -- What is a route in the small hall, and that nobody's route leads over another's bay.
 use mathlib.Core.Path.{_≡_}
-use mathlib.Core.Bool.{Bool, true, false}
+use mathlib.Core.Bool.{true, false}
 use mathlib.Core.List.{List, [], _∷_}
 use Prim.Native.Nat.{ℕ, _<_}
 use Rattle.rules.specs.Tests.{among}

@@ -1,10 +1,9 @@
 -- Which steps are granted in the small hall. 'Square: what is left' is written `standing square left`.
 use mathlib.Core.Path.{_≡_}
-use mathlib.Core.Bool.{Bool, true, false, not}
+use mathlib.Core.Bool.{true, false}
 use mathlib.Core.List.{List, [], _∷_}
-use Prim.Native.Nat.{ℕ, zero, suc}
-use lib.ListN.{length, drop}
-use Rattle.rules.specs.Field.{Field}
+use Prim.Native.Nat.{ℕ}
+use lib.ListN.{drop}
 use Rattle.rules.specs.Shuttle.{Fleet, holds}
 use Rattle.rules.specs.Safe.{Safe, safe}
 use Rattle.rules.specs.Event.{Event, order, step, arrive, grants, after}
