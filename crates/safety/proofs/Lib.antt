@@ -1,3 +1,5 @@
--- Lemmas on masks and on shuttles in memory.
+-- Lemmas on masks, on shuttles in memory, and on taking out.
 pub mod Masks
 pub mod Reading
+pub mod Standing
+pub mod Rounds

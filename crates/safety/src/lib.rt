@@ -1,8 +1,10 @@
 // Shuttles in memory, and whether all is safe.
+mod blocking;
 mod fleet;
 mod memory;
 mod read;
 mod shuttle;
+mod taking;
 
 pub use fleet::Fleet;
 pub use memory::is_memory;
