@@ -52,24 +52,24 @@ module _ (squares : ℕ) (m : List ℕ) (i : ℕ) (s : Shuttle) (room : 260 * i 
   unfolding shuttle-ok numbers-of
   own-ok =
       let at : getD (stored m i s) (260 * i) 0 ≡ s .at =
-          ap (λ q. getD (stored m i s) q 0) (sym (add-zero (260 * i))) ∙ stored-at m i s room (fits .short) 0 (omega arith) in
+      ap (λ q. getD (stored m i s) q 0) (sym (add-zero (260 * i))) ∙ stored-at m i s room (fits .short) 0 (omega arith) in
       let moving : getD (stored m i s) (260 * i + 1) 0 ≡ mark (s .moving) = stored-at m i s room (fits .short) 1 (omega arith) in
       let behind : getD (stored m i s) (260 * i + 2) 0 ≡ s .behind = stored-at m i s room (fits .short) 2 (omega arith) in
       let left : getD (stored m i s) (260 * i + 3) 0 ≡ length (s .route) = stored-at m i s room (fits .short) 3 (omega arith) in
       rw (at, moving, behind, left, stored-route m i s room (fits .short))
-        (and-from _ _ (le-leb _ _ (mark-small (s .moving)))
-          (and-from _ _ (le-leb _ _ (fits .short))
-            (and-from _ _ (lt-ltb _ _ (fits .on)) (and-from _ _ (lt-ltb _ _ (fits .from)) (fits .over)))))
+      (and-from _ _ (le-leb _ _ (mark-small (s .moving)))
+      (and-from _ _ (le-leb _ _ (fits .short))
+      (and-from _ _ (lt-ltb _ _ (fits .on)) (and-from _ _ (lt-ltb _ _ (fits .from)) (fits .over)))))
 
   -- a shuttle is accepted after the write if it is the one that was written, or was accepted before
   pub stored-ok : (j : ℕ) → ((j ≡ i → ⊥) → shuttle-ok squares m j ≡ true) → shuttle-ok squares (stored m i s) j ≡ true
   stored-ok j was =
       ⊎-elim (λ (e : j ≡ i). rw e own-ok)
-        (λ ne.
-          sym (same-ok m (stored m i s) j (sym (stored-length m i s room (fits .short))) (stored-same m i s room (fits .short) j ne)
-                (ok-room squares m j (was ne)) squares)
-          ∙ was ne)
-        (cases-eq j i)
+      (λ ne.
+      sym (same-ok m (stored m i s) j (sym (stored-length m i s room (fits .short))) (stored-same m i s room (fits .short) j ne)
+      (ok-room squares m j (was ne)) squares)
+      ∙ was ne)
+      (cases-eq j i)
 
   -- what is read after the write
   pub stored-reads : (j : ℕ) → ((j ≡ i → ⊥) → getD m (260 * j + 3) 0 ≤ 256) → shuttle-in (stored m i s) j ≡ put (shuttle-in m) i s j
@@ -77,7 +77,7 @@ module _ (squares : ℕ) (m : List ℕ) (i : ℕ) (s : Shuttle) (room : 260 * i 
   stored-reads j short =
       let w = written m i s room (fits .short) in
       ⊎-elim (λ (e : j ≡ i). rw e (w .its-own ∙ sym (cond-true _ _ _ (eq-eqb i i refl))))
-        (λ ne. w .others j ne (short ne) ∙ sym (cond-false _ _ _ (ne-eqb j i ne))) (cases-eq j i)
+      (λ ne. w .others j ne (short ne) ∙ sym (cond-false _ _ _ (ne-eqb j i ne))) (cases-eq j i)
 
 module _ (squares n : ℕ) (m : List ℕ) (ok : memory-ok squares n m ≡ true) where
   pub accepted-length : length m ≡ 260 * n
@@ -91,7 +91,7 @@ module _ (squares n : ℕ) (m : List ℕ) (ok : memory-ok squares n m ≡ true) 
   accepted-room : (j : ℕ) → getD m (260 * j + 3) 0 ≤ 256
   accepted-room j =
       ⊎-elim (λ l. ok-room squares m j (accepted-each j l))
-        (λ l. rw (getD-past m (260 * j + 3) 0 (omega (arith, accepted-length))) (lit≤ tt)) (cases-lt j n)
+      (λ l. rw (getD-past m (260 * j + 3) 0 (omega (arith, accepted-length))) (lit≤ tt)) (cases-lt j n)
 
   module _ (i : ℕ) (s : Shuttle) (l : i < n) (fits : Fits squares s) where
     pub write-accepted : memory-ok squares n (stored m i s) ≡ true
@@ -99,7 +99,7 @@ module _ (squares n : ℕ) (m : List ℕ) (ok : memory-ok squares n m ≡ true) 
     write-accepted =
         let room : 260 * i + 260 ≤ length m = omega (arith, accepted-length) in
         and-from _ _ (eq-eqb _ _ (stored-length m i s room (fits .short) ∙ accepted-length))
-          (every-to-from _ n (λ j b. stored-ok squares m i s room fits j (λ _. accepted-each j b)))
+        (every-to-from _ n (λ j b. stored-ok squares m i s room fits j (λ _. accepted-each j b)))
 
     pub write-reads : (j : ℕ) → shuttle-in (stored m i s) j ≡ put (shuttle-in m) i s j
     write-reads j =

@@ -16,19 +16,16 @@ use Rattle.rules.specs.Event.{Event, does, who, becomes, happens, after}
 use Rattle.rules.specs.Memory.{field-in, field-ok, shuttle-in, shuttle-ok, memory-ok, event-in, stored, started}
 use Rattle.rules.proofs.Tests.{every-to-from}
 use Rattle.rules.proofs.Fields.{sound-tells, accepted}
+use Rattle.promise.proofs.GoingOn.{done}
 use Rattle.calls.specs.Call.{Says, Played, begun, more, refused, Stays-accepted, Follows}
 use Rattle.calls.proofs.Stored.{stored-length}
 use Rattle.calls.proofs.Accepted.{Fits, ok-room, ok-fits, stored-ok, stored-reads, accepted-each, write-accepted, write-reads, does-there, becomes-fits}
 use Rattle.calls.proofs.Refusal.{refusal-none}
 
--- the fleet after an event that happens, and after one that does not
-pub happens-done : (f : Field) (g : Fleet) (e : Event) → does f g e ≡ true → happens f g e ≡ put g (who e) (becomes e (g (who e)))
+-- an event that does not happen changes nothing
+not-done : (f : Field) (g : Fleet) (e : Event) → does f g e ≡ false → happens f g e ≡ g
 unfolding happens
-happens-done f g e h = cond-true (does f g e) _ _ h
-
-pub happens-not : (f : Field) (g : Fleet) (e : Event) → does f g e ≡ false → happens f g e ≡ g
-unfolding happens
-happens-not f g e h = cond-false (does f g e) _ _ h
+not-done f g e h = cond-false (does f g e) _ _ h
 
 -- memory that is accepted, and of which shuttle j is read as g j
 abbrev pub Holds : (a d : ℕ) (bs m : List ℕ) → Fleet → Type 0
@@ -41,9 +38,10 @@ pub write-done : (a d : ℕ) (ws bs m : List ℕ) (e : Event) → memory-ok (a *
 unfolding field-in
 write-done a d ws bs m e ok h =
     let there = does-there (field-in a d ws bs) (shuttle-in m) e h in
-    let fits = becomes-fits (field-in a d ws bs) (shuttle-in m) e h (ok-fits (a * d) m (who e) (accepted-each (a * d) (length bs) m ok (who e) there)) in
-    (write-accepted (a * d) (length bs) m ok (who e) _ there fits,
-      λ j. write-reads (a * d) (length bs) m ok (who e) _ there fits j ∙ ap (λ g. g j) (sym (happens-done (field-in a d ws bs) (shuttle-in m) e h)))
+    let fits = becomes-fits (field-in a d ws bs) (shuttle-in m) e h (ok-fits (a * d) m (who e) (accepted-each (a * d) (length bs) m ok (who e) there)) in (
+      write-accepted (a * d) (length bs) m ok (who e) _ there fits,
+      λ j. write-reads (a * d) (length bs) m ok (who e) _ there fits j ∙ ap (λ g. g j) (sym (done (field-in a d ws bs) (shuttle-in m) e h)),
+    )
 
 pub stays-accepted : Stays-accepted
 unfolding Says
@@ -54,7 +52,7 @@ stays-accepted a d ws bs m kind i r n m₁ none (inl h) =
 stays-accepted a d ws bs m kind i r n m₁ none (inr h) =
     let was = refusal-none a d ws bs m kind i r none in
     let P : List ℕ → Type 0 = λ x. Holds a d bs x (happens (field-in a d ws bs) (shuttle-in m) (event-in kind i r)) in
-    subst P (sym (h .2)) (was .1, λ j. ap (λ g. g j) (sym (happens-not (field-in a d ws bs) (shuttle-in m) (event-in kind i r) (h .1))))
+    subst P (sym (h .2)) (was .1, λ j. ap (λ g. g j) (sym (not-done (field-in a d ws bs) (shuttle-in m) (event-in kind i r) (h .1))))
 
 -- a bay is a square
 bay-square : (f : Field) → sound f ≡ true → (i : ℕ) → i < f .shuttles → f .bay i < f .across * f .down
@@ -73,12 +71,12 @@ past-home a d ws bs m j p q =
     let none = getD-past bs j 0 q in
     let left = getD-past m (260 * j + 3) 0 (omega arith) in
     λ t.
-      record {
-        at = (getD-past m (260 * j) 0 p ∙ sym none) t;
-        moving = eqb (getD-past m (260 * j + 1) 0 (omega arith) t) 1;
-        behind = (getD-past m (260 * j + 2) 0 (omega arith) ∙ sym none) t;
-        route = take (left t) (drop (260 * j + 4) m);
-      }
+    record {
+      at = (getD-past m (260 * j) 0 p ∙ sym none) t;
+      moving = eqb (getD-past m (260 * j + 1) 0 (omega arith) t) 1;
+      behind = (getD-past m (260 * j + 2) 0 (omega arith) ∙ sym none) t;
+      route = take (left t) (drop (260 * j + 4) m);
+    }
 
 -- the first k shuttles are written at home
 record Begun (f : Field) (k : ℕ) (m m₁ : List ℕ) : Type 0 where
@@ -100,18 +98,19 @@ started-is f (suc k) m h l len =
       as-long = stored-length m₁ k (at-home f k) room (fits .short) ∙ was .as-long;
       each-ok = λ j b. stored-ok sq m₁ k (at-home f k) room fits j (λ ne. was .each-ok j (before j b ne));
       each-home = λ j b.
-        stored-reads sq m₁ k (at-home f k) room fits j (λ ne. ok-room sq m₁ j (was .each-ok j (before j b ne)))
-        ∙ ⊎-elim (λ (e : j ≡ k). cond-true _ _ _ (eq-eqb j k e) ∙ ap (at-home f) (sym e))
-            (λ ne. cond-false _ _ _ (ne-eqb j k ne) ∙ was .each-home j (before j b ne)) (cases-eq j k);
+          stored-reads sq m₁ k (at-home f k) room fits j (λ ne. ok-room sq m₁ j (was .each-ok j (before j b ne)))
+          ∙ ⊎-elim (λ (e : j ≡ k). cond-true _ _ _ (eq-eqb j k e) ∙ ap (at-home f) (sym e))
+          (λ ne. cond-false _ _ _ (ne-eqb j k ne) ∙ was .each-home j (before j b ne)) (cases-eq j k);
     }
 
 pub started-holds : (a d : ℕ) (ws bs m : List ℕ) → field-ok a d ws bs ≡ true → length m ≡ 260 * length bs
     → Holds a d bs (started (field-in a d ws bs) (length bs) m) (at-home (field-in a d ws bs))
 unfolding field-in memory-ok
 started-holds a d ws bs m ok len =
-    let all = started-is (field-in a d ws bs) (length bs) m (accepted a d ws bs ok .is-sound) (omega arith) (omega arith) in
-    (and-from _ _ (eq-eqb _ _ (all .as-long ∙ len)) (every-to-from _ (length bs) (all .each-ok)),
-      λ j. ⊎-elim (λ l. all .each-home j l) (λ l. past-home a d ws bs _ j (omega (arith, all .as-long)) l) (cases-lt j (length bs)))
+    let all = started-is (field-in a d ws bs) (length bs) m (accepted a d ws bs ok .is-sound) (omega arith) (omega arith) in (
+      and-from _ _ (eq-eqb _ _ (all .as-long ∙ len)) (every-to-from _ (length bs) (all .each-ok)),
+      λ j. ⊎-elim (λ l. all .each-home j l) (λ l. past-home a d ws bs _ j (omega (arith, all .as-long)) l) (cases-lt j (length bs)),
+    )
 
 pub follows : Follows
 unfolding after Says

@@ -5,4 +5,4 @@ pub mod Refusal
 pub mod Follow
 pub mod Row
 pub mod Keep
-pub mod Sum
+pub mod Less

@@ -36,5 +36,5 @@ module _ (a d : ℕ) (ws bs : List ℕ) (ok : field-ok a d ws bs ≡ true) where
   unfolding event-ok
   event-none kind i r p q l h =
       let small : every (λ c. leb c 4095) r ≡ true =
-          every-imp _ _ r (λ c e. le-leb c 4095 (omega (arith, ltb-true _ _ e, field-small))) h in
+      every-imp _ _ r (λ c e. le-leb c 4095 (omega (arith, ltb-true _ _ e, field-small))) h in
       grind (arith, tells)

@@ -21,11 +21,12 @@ play-on a d ws bs es kind i r ok (m, played) =
     let e : Event = event-in kind i r in
     let none = none-refusal a d ws bs m kind i r (played-field a d ws bs es m played) (follows a d ws bs es m played .0) ok in
     ⊎-elim
-      (λ h.
-        (stored m (who e) (becomes e (shuttle-in m (who e))),
-          more es m (stored m (who e) (becomes e (shuttle-in m (who e)))) kind i r 0 played none (inl (refl, h, refl))))
-      (λ h. (m, more es m m kind i r 1 played none (inr (refl, h, refl))))
-      (cases-bool (does (field-in a d ws bs) (shuttle-in m) e))
+    (λ h. (
+      stored m (who e) (becomes e (shuttle-in m (who e))),
+      more es m (stored m (who e) (becomes e (shuttle-in m (who e)))) kind i r 0 played none (inl (refl, h, refl)),
+    ))
+    (λ h. (m, more es m m kind i r 1 played none (inr (refl, h, refl))))
+    (cases-bool (does (field-in a d ws bs) (shuttle-in m) e))
 
 pub row-is-played : Row-is-played
 unfolding events-ok event-in kind-of route-of who

@@ -19,8 +19,8 @@ same-part : (xs ys : List ℕ) (p k : ℕ) → length xs ≡ length ys
     → ((q : ℕ) → p ≤ q → q < p + k → getD xs q 0 ≡ getD ys q 0) → take k (drop p xs) ≡ take k (drop p ys)
 same-part xs ys p k e h =
     ext-getD 0 _ _ (simp (length-take, length-drop, e)) λ q l.
-      let b : q < k = omega (arith, simp length-take at l) in
-      rw (getD-take, getD-take, getD-drop, getD-drop) (h (p + q) (omega arith) (omega arith))
+    let b : q < k = omega (arith, simp length-take at l) in
+    rw (getD-take, getD-take, getD-drop, getD-drop) (h (p + q) (omega arith) (omega arith))
 
 -- the 260 numbers of shuttle j are the same in both lists
 abbrev pub Same : (xs ys : List ℕ) → ℕ → Type 0
@@ -36,19 +36,23 @@ module _ (xs ys : List ℕ) (j : ℕ) (e : length xs ≡ length ys) (h : Same xs
   unfolding shuttle-in
   same-shuttle =
       λ t.
-        record {
-          at = h (260 * j) (omega arith) (omega arith) t;
-          moving = eqb (h (260 * j + 1) (omega arith) (omega arith) t) 1;
-          behind = h (260 * j + 2) (omega arith) (omega arith) t;
-          route = same-route t;
-        }
+      record {
+        at = h (260 * j) (omega arith) (omega arith) t;
+        moving = eqb (h (260 * j + 1) (omega arith) (omega arith) t) 1;
+        behind = h (260 * j + 2) (omega arith) (omega arith) t;
+        route = same-route t;
+      }
 
   pub same-ok : (squares : ℕ) → shuttle-ok squares xs j ≡ shuttle-ok squares ys j
   unfolding shuttle-ok
   same-ok squares =
-      rw
-        (h (260 * j) (omega arith) (omega arith), h (260 * j + 1) (omega arith) (omega arith),
-          h (260 * j + 2) (omega arith) (omega arith), same-route, h (260 * j + 3) (omega arith) (omega arith))
+      rw (
+        h (260 * j) (omega arith) (omega arith),
+        h (260 * j + 1) (omega arith) (omega arith),
+        h (260 * j + 2) (omega arith) (omega arith),
+        same-route,
+        h (260 * j + 3) (omega arith) (omega arith),
+      )
 
 mark-is : (b : Bool) → eqb (mark b) 1 ≡ b
 unfolding mark
@@ -83,12 +87,12 @@ module _ (m : List ℕ) (i : ℕ) (s : Shuttle) (fits : 260 * i + 260 ≤ length
   stored-own =
       let len : getD (stored m i s) (260 * i + 3) 0 ≡ length (s .route) = stored-at 3 (omega arith) in
       λ t.
-        record {
-          at = (ap (λ q. getD (stored m i s) q 0) (sym (add-zero (260 * i))) ∙ stored-at 0 (omega arith)) t;
-          moving = (ap (λ n. eqb n 1) (stored-at 1 (omega arith)) ∙ mark-is (s .moving)) t;
-          behind = stored-at 2 (omega arith) t;
-          route = (ap (λ c. take c (drop (260 * i + 4) (stored m i s))) len ∙ stored-route) t;
-        }
+      record {
+        at = (ap (λ q. getD (stored m i s) q 0) (sym (add-zero (260 * i))) ∙ stored-at 0 (omega arith)) t;
+        moving = (ap (λ n. eqb n 1) (stored-at 1 (omega arith)) ∙ mark-is (s .moving)) t;
+        behind = stored-at 2 (omega arith) t;
+        route = (ap (λ c. take c (drop (260 * i + 4) (stored m i s))) len ∙ stored-route) t;
+      }
 
   pub stored-rest : (p : ℕ) → (p < 260 * i) ⊎ (260 * i + (4 + length (s .route)) ≤ p) → getD (stored m i s) p 0 ≡ getD m p 0
   unfolding stored numbers-of

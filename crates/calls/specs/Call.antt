@@ -11,7 +11,7 @@ use Rattle.rules.specs.Route.{route-ok}
 use Rattle.rules.specs.Shuttle.{Shuttle, holds}
 use Rattle.rules.specs.Safe.{Safe}
 use Rattle.rules.specs.Event.{Event, order, step, arrive, does, who, becomes, happens, after}
-use Rattle.promise.specs.Promise.{All-home, Placed, sum-to, squares-left}
+use Rattle.promise.specs.Promise.{All-home, Placed, sum-to, squares-left, events-left}
 use Rattle.rules.specs.Memory.{field-in, field-ok, shuttle-in, memory-ok, event-ok, event-in, refusal, stored, started}
 
 -- the number of an answer: 0 it happened, 1 it did not, 16 + k it is turned away by k
@@ -104,6 +104,9 @@ pub record Promised (a d : ℕ) (ws bs m : List ℕ) : Type 0 where
       → ((j : ℕ) × (j < length bs) × (shuttle-in m j .moving ≡ true)) ⊎ ((j : ℕ) × (j < length bs) × Is-done a d ws bs m 1 j [])
   -- some calls of steps and arrivals bring all home
   pub comes-home : (m₁ : List ℕ) × Driven a d ws bs m m₁ × All-home (field-in a d ws bs) (shuttle-in m₁)
+  -- and where no step and no arrival can be made, all are home
+  pub ends-home : ((i : ℕ) → i < length bs → does (field-in a d ws bs) (shuttle-in m) (step i) ≡ false)
+      → ((i : ℕ) → i < length bs → does (field-in a d ws bs) (shuttle-in m) (arrive i) ≡ false) → All-home (field-in a d ws bs) (shuttle-in m)
   -- a shuttle that stands with nothing left is given any route from its bay
   pub takes-routes : (i : ℕ) (r : List ℕ) → i < length bs → shuttle-in m i .moving ≡ false → is-empty (shuttle-in m i .route) ≡ true
       → length r ≤ 256 → route-ok (field-in a d ws bs) i (getD bs i 0) r ≡ true → Is-done a d ws bs m 0 i r
@@ -120,3 +123,10 @@ Step-leaves-less =
     (a d : ℕ) (ws bs m : List ℕ) (i : ℕ) (r : List ℕ) (m₁ : List ℕ) → refusal a d ws bs m 1 i r ≡ 0
     → Says 0 (field-in a d ws bs) m (event-in 1 i r) 0 m₁
     → suc (sum-to squares-left (shuttle-in m₁) (length bs)) ≡ sum-to squares-left (shuttle-in m) (length bs)
+
+-- a call of a step or an arrival that happens leaves exactly one event less; so all come home whichever such calls are made
+abbrev pub Event-leaves-less : Type 0
+Event-leaves-less =
+    (a d : ℕ) (ws bs m : List ℕ) (kind i : ℕ) (r : List ℕ) (m₁ : List ℕ) → 1 ≤ kind → refusal a d ws bs m kind i r ≡ 0
+    → Says 0 (field-in a d ws bs) m (event-in kind i r) 0 m₁
+    → suc (sum-to events-left (shuttle-in m₁) (length bs)) ≡ sum-to events-left (shuttle-in m) (length bs)

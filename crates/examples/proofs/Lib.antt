@@ -1,5 +1,4 @@
 -- Proofs of the worked examples.
 pub mod Open
-pub mod Bays
 pub mod Reached
 pub mod Unsafe

@@ -12,7 +12,7 @@ use Rattle.examples.specs.Wrong.{pass, safe-in-one-pass}
 
 unfoldable pub rules : Unit {0}
 unfolding every-to any-to every among is-empty is-bay-to is-bay free-square bay-ok sound beside step-ok route-ok
-  holds held-by-other put at-home ordered next-square stepped-to stepped arrived
-  clear-of all-to Safe without first-clear on-first try safe takes grants arrives does who becomes happens after
-  field-in field-ok event-ok event-in kind-of route-of events-ok each-happens pass safe-in-one-pass
+    holds held-by-other put at-home ordered next-square stepped-to stepped arrived
+    clear-of all-to Safe without first-clear on-first try safe takes grants arrives does who becomes happens after
+    field-in field-ok event-ok event-in kind-of route-of events-ok each-happens pass safe-in-one-pass
 rules = tt

@@ -17,12 +17,13 @@ pub busy-is-reached : Busy-is-reached
 unfolding rules
 busy-is-reached =
     let w = row-is-played 3 1 row-walls row-bays row refl refl in
-    let now = follows 3 1 row-walls row-bays row (w .0) (w .1) in
-    (w .0,
+    let now = follows 3 1 row-walls row-bays row (w .0) (w .1) in (
+      w .0,
       record {
         reached = (row, w .1);
         moves = ap (λ s. s .moving) (now .1 0);
         something-left = ap (λ s. s .route) (now .1 0);
         asked = none-refusal 3 1 row-walls row-bays (w .0) 1 1 [] refl (now .0) refl;
         not-granted = ap (λ g. does (field-in 3 1 row-walls row-bays) g (event-in 1 1 [])) (fun-ext (now .1));
-      })
+      },
+    )

@@ -27,8 +27,8 @@ pub record Some-routes : Type 0 where
   -- no square at all, outside the bay
   pub no-rest-outside : route-ok hall 0 1 [] ≡ false
 
--- a shuttle in its bay is in nobody's way: in every sound field nobody else's route leads over that bay
-abbrev pub Bays-are-nobodys-way : Type 0
-Bays-are-nobodys-way =
+-- a shuttle in its bay blocks nobody: in every sound field nobody else's route leads over that bay
+abbrev pub No-route-over-other-bays : Type 0
+No-route-over-other-bays =
     (f : Field) (i j c : ℕ) (r : List ℕ) → sound f ≡ true → i < f .shuttles → j < f .shuttles → (j ≡ i → ⊥)
     → route-ok f i c r ≡ true → among (f .bay j) r ≡ false

@@ -42,15 +42,15 @@ loop = open-field 5 4 (2 ∷ 3 ∷ 18 ∷ 17 ∷ 16 ∷ 1 ∷ [])
 abbrev pub ring : Fleet
 ring =
     fleet (
-      standing 6 (7 ∷ 2 ∷ []) ∷ standing 7 (8 ∷ 3 ∷ []) ∷ standing 8 (13 ∷ 18 ∷ []) ∷ standing 13 (12 ∷ 17 ∷ [])
-        ∷ standing 12 (11 ∷ 16 ∷ []) ∷ standing 11 (6 ∷ 1 ∷ []) ∷ [])
+    standing 6 (7 ∷ 2 ∷ []) ∷ standing 7 (8 ∷ 3 ∷ []) ∷ standing 8 (13 ∷ 18 ∷ []) ∷ standing 13 (12 ∷ 17 ∷ [])
+    ∷ standing 12 (11 ∷ 16 ∷ []) ∷ standing 11 (6 ∷ 1 ∷ []) ∷ [])
 
 -- the last of them is still one square outside
 abbrev pub ring-but-one : Fleet
 ring-but-one =
     fleet (
-      standing 6 (7 ∷ 2 ∷ []) ∷ standing 7 (8 ∷ 3 ∷ []) ∷ standing 8 (13 ∷ 18 ∷ []) ∷ standing 13 (12 ∷ 17 ∷ [])
-        ∷ standing 12 (11 ∷ 16 ∷ []) ∷ standing 10 (11 ∷ 6 ∷ 1 ∷ []) ∷ [])
+    standing 6 (7 ∷ 2 ∷ []) ∷ standing 7 (8 ∷ 3 ∷ []) ∷ standing 8 (13 ∷ 18 ∷ []) ∷ standing 13 (12 ∷ 17 ∷ [])
+    ∷ standing 12 (11 ∷ 16 ∷ []) ∷ standing 10 (11 ∷ 6 ∷ 1 ∷ []) ∷ [])
 
 -- a ring of six is not safe, though any five of them could run home; and the step that would close it is not granted, though its square is free
 pub record Ring-is-not-safe : Type 0 where

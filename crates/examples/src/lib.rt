@@ -1,14 +1,15 @@
 // Worked examples of the rules. Each function says one of them in its contract, so that the check asks for its proof; it
 // computes nothing.
-ghost use Rattle.examples.specs.Steps.{Either-may-step, One-may-step, Face-to-face-is-not-safe, Never-face-to-face};
-ghost use Rattle.examples.specs.Steps.{The-way-is-driven, Moving-holds-both, Waits-for-the-way-back};
-ghost use Rattle.examples.specs.Routes.{Some-routes, Bays-are-nobodys-way};
+ghost use Rattle.examples.specs.Steps.{Hall-is-sound, Either-may-step, One-may-step, Blocked-pair-is-not-safe, Blocked-pair-never-comes-about};
+ghost use Rattle.examples.specs.Steps.{Each-event-happens, Moving-holds-both, When-the-other-may-step};
+ghost use Rattle.examples.specs.Routes.{Some-routes, No-route-over-other-bays};
 ghost use Rattle.examples.specs.Wrong.{One-pass-fails, Ring-is-not-safe, Taken-while-another-moves, No-second-step};
 ghost use Rattle.examples.specs.Reach.{Row-is-accepted, Busy-is-reached};
 
 // Two shuttles that stand in their bays with a route each: either may step.
 pub fn either_may_step() -> u8
-    ensures { λ _. ⌜ Either-may-step ⌝ }
+    ensures sound { λ _. ⌜ Hall-is-sound ⌝ }
+    ensures granted { λ _. ⌜ Either-may-step ⌝ }
 {
     0
 }
@@ -21,24 +22,24 @@ pub fn one_may_step() -> u8
 }
 
 // Two shuttles of which each stands on the other's next square are not safe.
-pub fn face_to_face_is_not_safe() -> u8
-    ensures { λ _. ⌜ Face-to-face-is-not-safe ⌝ }
+pub fn blocked_pair_is_not_safe() -> u8
+    ensures { λ _. ⌜ Blocked-pair-is-not-safe ⌝ }
 {
     0
 }
 
 // No row of events leads there.
-pub fn never_face_to_face() -> u8
-    ensures { λ _. ⌜ Never-face-to-face ⌝ }
+pub fn blocked_pair_never_comes_about() -> u8
+    ensures { λ _. ⌜ Blocked-pair-never-comes-about ⌝ }
 {
     0
 }
 
 // A shuttle is driven out and back while the other waits: what it holds, and when the other may step.
-pub fn waits_for_the_way_back() -> u8
-    ensures driven { λ _. ⌜ The-way-is-driven ⌝ }
+pub fn when_the_other_may_step() -> u8
+    ensures driven { λ _. ⌜ Each-event-happens ⌝ }
     ensures held { λ _. ⌜ Moving-holds-both ⌝ }
-    ensures waited { λ _. ⌜ Waits-for-the-way-back ⌝ }
+    ensures waited { λ _. ⌜ When-the-other-may-step ⌝ }
 {
     0
 }
@@ -50,9 +51,9 @@ pub fn some_routes() -> u8
     0
 }
 
-// A shuttle in its bay is in nobody's way.
-pub fn bays_are_nobodys_way() -> u8
-    ensures { λ _. ⌜ Bays-are-nobodys-way ⌝ }
+// A shuttle in its bay blocks nobody.
+pub fn no_route_over_other_bays() -> u8
+    ensures { λ _. ⌜ No-route-over-other-bays ⌝ }
 {
     0
 }

@@ -7,4 +7,4 @@ use Rattle.examples.proofs.either_may_step.Needs as need
 
 pub returns : need.returns
 unfolding rules
-returns c = (refl, first 1 [] (0 ∷ []) refl (first 0 [] [] refl none), refl, refl)
+returns c = record { sound = refl; granted = (refl, first 1 [] (0 ∷ []) refl (first 0 [] [] refl none), refl, refl) }

@@ -1,7 +1,7 @@
 -- What is held on the way, and when the other may step: computed.
 use mathlib.Core.Path.{refl}
 use Rattle.examples.proofs.Open.{rules}
-use Rattle.examples.proofs.waits_for_the_way_back.Needs as need
+use Rattle.examples.proofs.when_the_other_may_step.Needs as need
 
 pub returns : need.returns
 unfolding rules
