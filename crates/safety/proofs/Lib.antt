@@ -5,3 +5,4 @@ pub mod Reading
 pub mod Shifts
 pub mod Standing
 pub mod Rounds
+pub mod Blocked

@@ -3,6 +3,7 @@ mod blocking;
 mod fleet;
 mod memory;
 mod read;
+mod safe;
 mod shuttle;
 mod taking;
 
