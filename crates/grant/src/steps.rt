@@ -29,7 +29,13 @@ pub fn step(fleet: &Fleet, i: usize) -> Option<Shuttle>
     if is_held_by_other(fleet, i, next) {
         return None;
     }
-    let moved = Shuttle { at: next, moving: true, behind: shuttle.at, from: from + 1, to };
+    let moved = Shuttle {
+        at: next,
+        moving: true,
+        behind: shuttle.at,
+        from: from + 1,
+        to,
+    };
     let mut after = *fleet;
     after.shuttles[i] = moved;
     if after.is_safe() { Some(moved) } else { None }

@@ -32,13 +32,13 @@ abbrev pub Blocked-by : ℕ → Fleet → List ℕ → Type 0
 Blocked-by n g bs = (i j : ℕ) → i < n → has (getD bs i 0) j ≡ (ltb j n && among (g j .at) (g i .route))
 
 pub blocked-by : (ss : List Kept) (m : List ℕ) (n : ℕ) (table bs : List ℕ) → Stands (λ k. getD ss k nobody .at) n table
-  → ((i j : ℕ) → i < n → has (getD bs i 0) j ≡ met table j (fleet-of ss m i .route)) → Blocked-by n (fleet-of ss m) bs
+    → ((i j : ℕ) → i < n → has (getD bs i 0) j ≡ met table j (fleet-of ss m i .route)) → Blocked-by n (fleet-of ss m) bs
 blocked-by ss m n table bs stands met-by i j l = met-by i j l ∙ met-is (λ k. getD ss k nobody .at) n table stands j (fleet-of ss m i .route)
 
 pub safe-by-sets : (n : ℕ) (g : Fleet) (bs : List ℕ) (r : Bool) → Blocked-by n g bs
-  → Decides r ((i : ℕ) → i < n → CanGo n (λ i j. has (getD bs i 0) j) no-one i) → r ≡ safe n g
+    → Decides r ((i : ℕ) → i < n → CanGo n (λ i j. has (getD bs i 0) j) no-one i) → r ≡ safe n g
 safe-by-sets n g bs r is d =
     same-from-decides r (safe n g) (decides-like r
-      (λ f i l. kept-fewer (λ i j l m _ e. is i j l ∙ and-from _ _ (lt-ltb j n m) (sym (blocks-is g i j) ∙ e)) (λ _ _ e. e) (f i l))
-      (λ f i l. kept-fewer (λ i j l m _ e. blocks-is g i j ∙ and-parts _ _ (sym (is i j l) ∙ e) .1) (λ _ _ e. e) (f i l)) d)
-      (safe-all-go n g)
+    (λ f i l. kept-fewer (λ i j l m _ e. is i j l ∙ and-from _ _ (lt-ltb j n m) (sym (blocks-is g i j) ∙ e)) (λ _ _ e. e) (f i l))
+    (λ f i l. kept-fewer (λ i j l m _ e. blocks-is g i j ∙ and-parts _ _ (sym (is i j l) ∙ e) .1) (λ _ _ e. e) (f i l)) d)
+    (safe-all-go n g)

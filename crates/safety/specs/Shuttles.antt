@@ -37,6 +37,6 @@ fits-in m s =
     ltb (s .at) 4096 && (leb (s .from) (s .to) && (leb (s .to) (length m)
     && every (λ c. ltb c 4096) (take (s .to - s .from) (drop (s .from) m))))
 
--- so does each of the first n, of which there are at most 16
+-- sixteen shuttles, of which each of the first n, at most 16, fits
 unfoldable pub all-fit : List Kept → ℕ → List ℕ → Bool
-all-fit ss n m = leb n 16 && every-to (λ i. fits-in m (getD ss i nobody)) n
+all-fit ss n m = eqb (length ss) 16 && (leb n 16 && every-to (λ i. fits-in m (getD ss i nobody)) n)

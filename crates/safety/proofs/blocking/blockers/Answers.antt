@@ -47,7 +47,8 @@ pub loop-i-again : need.loop-i-again
 loop-i-again c =
     let inv = c .loop-i .inv in
     let few = count-most (c .args .fleet .now) in
-    let there : c .loop-i .i < length (c .loop-i .sets) = omega (arith, inv .0) in
-    (length-set (c .loop-i .sets) _ _ ∙ inv .0,
-     below-more _ _ (λ k l j. let ne : k ≢ c .loop-i .i = omega arith in rw getD-set-other (inv .1 k l j))
-       (λ j. rw getD-set-same (c .met-on .ensures j)))
+    let there : c .loop-i .i < length (c .loop-i .sets) = omega (arith, inv .0) in (
+      length-set (c .loop-i .sets) _ _ ∙ inv .0,
+      below-more _ _ (λ k l j. let ne : k ≢ c .loop-i .i = omega arith in rw getD-set-other (inv .1 k l j))
+          (λ j. rw getD-set-same (c .met-on .ensures j)),
+    )

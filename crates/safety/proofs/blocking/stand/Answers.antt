@@ -38,6 +38,7 @@ loop-j-again c =
     let f = c .args .fleet .now in
     let here = fitting f (c .loop-j .j) (c .loop-j-test .taken) .here in
     let long = c .loop-j .inv .0 in
-    rw (bit-is (c .loop-j .j) (f .count) (c .loop-j-test .taken) (count-most f))
-      (length-set (c .loop-j .table) _ _ ∙ long,
-       stands-more (λ k. getD (f .shuttles) k nobody .at) (c .loop-j .j) (c .loop-j .table) (omega arith) (c .loop-j .inv .1))
+    rw (bit-is (c .loop-j .j) (f .count) (c .loop-j-test .taken) (count-most f)) (
+      length-set (c .loop-j .table) _ _ ∙ long,
+      stands-more (λ k. getD (f .shuttles) k nobody .at) (c .loop-j .j) (c .loop-j .table) (omega arith) (c .loop-j .inv .1),
+    )

@@ -18,13 +18,14 @@ returns-then-next-out c =
     let n = c .args .count in
     let out = c .loop-out .out in
     let all = c .everybody-all .result in
-    let stuck = round-stuck bs n (λ i. omega (arith, c .typed .blockers i)) (c .pre .below) out (sym (c .taken-out-next .ensures) ∙ c .if-next-out .taken) in
-    (λ h i l.
-      let there : has all i ≡ true = c .everybody-all .ensures i ∙ lt-ltb i n l in
-      let is-out : has out i ≡ true = ap (λ t. has t i) (sym (eqb-true _ _ h)) ∙ has-or all out i ∙ or-left _ _ there in
-      c .loop-out .inv .1 i l is-out,
-     λ go. eq-eqb _ _ (or-within 16 all out (c .everybody-all .ok) (λ j m h.
-       not-false _ (set-stuck n _ _ (λ i. not (has out i)) stuck (go j (ltb-true j n (sym (c .everybody-all .ensures j) ∙ h)))))))
+    let stuck = round-stuck bs n (λ i. omega (arith, c .typed .blockers i)) (c .pre .below) out (sym (c .taken-out-next .ensures) ∙ c .if-next-out .taken) in (
+      λ h i l.
+          let there : has all i ≡ true = c .everybody-all .ensures i ∙ lt-ltb i n l in
+          let is-out : has out i ≡ true = ap (λ t. has t i) (sym (eqb-true _ _ h)) ∙ has-or all out i ∙ or-left _ _ there in
+          c .loop-out .inv .1 i l is-out,
+      λ go. eq-eqb _ _ (or-within 16 all out (c .everybody-all .ok) (λ j m h.
+          not-false _ (set-stuck n _ _ (λ i. not (has out i)) stuck (go j (ltb-true j n (sym (c .everybody-all .ensures j) ∙ h)))))),
+    )
 
 pub loop-out-less : need.loop-out-less
 loop-out-less c =
@@ -33,6 +34,7 @@ loop-out-less c =
     let ok = c .taken-out-next .ok in omega arith
 
 pub loop-out-again : need.loop-out-again
-loop-out-again c =
-    (c .taken-out-next .ok,
-     rw (c .taken-out-next .ensures) (round-can (c .args .blockers .now) (c .args .count) (c .args .count) (c .loop-out .out) (omega arith) (c .loop-out .inv .1)))
+loop-out-again c = (
+  c .taken-out-next .ok,
+  rw (c .taken-out-next .ensures) (round-can (c .args .blockers .now) (c .args .count) (c .args .count) (c .loop-out .out) (omega arith) (c .loop-out .inv .1)),
+)

@@ -13,4 +13,4 @@ loop-i-holds c = λ j. has-nothing j ∙ grind (arith, tells)
 pub loop-i-again : need.loop-i-again
 loop-i-again c = λ j.
     rw (bit-is (c .loop-i .i) (c .args .count) (c .loop-i-test .taken) (c .pre), has-or (c .loop-i .all) (2 ^ c .loop-i .i) j, has-one (c .loop-i .i) j, c .loop-i .inv j)
-      (grind (arith, tells))
+    (grind (arith, tells))

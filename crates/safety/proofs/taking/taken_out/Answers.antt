@@ -27,11 +27,11 @@ loop-i-again c =
     let w = bitOr out (2 ^ i) in
     let small : w < 2 ^ 16 = or-lt 16 out (2 ^ i) (c .loop-i .inv .0) (bit-small i (c .args .count) (c .loop-i-test .taken) (c .pre .few)) in
     let is = c .loop-i .inv .1 in
-    elim (c .if-blockers-i .came)
-      [ then-blockers-i t ↦
+    elim (c .if-blockers-i .came) [
+      | then-blockers-i t ↦
           let e : eqb (bitOr block w) w ≡ true = eq-eqb _ _ (rw bit at (t .if-blockers-i .taken)) in
           rw (t .out-is, bit) (small, rw (add-one, ← is, e))
       | else-blockers-i t ↦
           let e : eqb (bitOr block w) w ≡ false = ne-eqb _ _ (rw bit at (t .if-blockers-i .left)) in
           rw (t .out-is) (c .loop-i .inv .0, rw (add-one, ← is, e))
-      ]
+    ]

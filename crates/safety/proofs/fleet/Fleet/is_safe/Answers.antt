@@ -15,7 +15,8 @@ all-go-requires c κs =
     record {
       few = count-most f;
       long = c .blockers-sets .ensures .long;
-      below = λ i j l h. ltb-true j _ (and-parts _ _ (sym (is i j l) ∙ h) .0) }
+      below = λ i j l h. ltb-true j _ (and-parts _ _ (sym (is i j l) ∙ h) .0);
+    }
 
 pub returns : need.returns
 returns c =
