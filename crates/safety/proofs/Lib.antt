@@ -6,3 +6,4 @@ pub mod Shifts
 pub mod Standing
 pub mod Rounds
 pub mod Blocked
+pub mod Writing

@@ -6,7 +6,9 @@ mod read;
 mod safe;
 mod shuttle;
 mod taking;
+mod write;
 
 pub use fleet::Fleet;
 pub use memory::is_memory;
 pub use shuttle::Shuttle;
+pub use write::write_numbers;
