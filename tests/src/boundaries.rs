@@ -17,11 +17,13 @@ pub struct Call {
 }
 
 impl Call {
-    /// A call that is not refused: shuttles stand in bays spread from the first to the last square, with so many
-    /// squares left, each the last of the field.
-    fn good(across: usize, down: usize, shuttles: usize, left: usize, kind: u64) -> Call {
+    /// A call that is not refused: shuttles stand in bays spread over the field, with so many squares left, each
+    /// the last of the field.
+    fn good(size: Size, left: usize, kind: u64) -> Call {
+        let Size { across, down, shuttles, margin } = size;
         let squares = across * down;
-        let bay = |i: usize| if shuttles == 1 { 0 } else { i * (squares - 1) / (shuttles - 1) };
+        let room = squares - 1 - 2 * margin;
+        let bay = |i: usize| margin + if shuttles == 1 { 0 } else { i * room / (shuttles - 1) };
         let bays: Vec<u16> = (0..shuttles).map(|i| bay(i) as u16).collect();
         let mut memory = vec![u16::MAX; PER_SHUTTLE * shuttles];
         for (i, &bay) in bays.iter().enumerate() {
@@ -43,14 +45,39 @@ impl Call {
     }
 }
 
-const SIZES: [(usize, usize, usize); 9] =
-    [(1, 1, 1), (2, 1, 2), (4, 2, 2), (5, 5, 4), (17, 1, 16), (64, 1, 16), (1, 64, 16), (63, 64, 3), (64, 64, 16)];
+/// The size of a field and how many shuttles it has. Their bays leave so many squares free at either end: without
+/// any the first and the last square are bays, and with some a wrong mark can stand there that is on no bay.
+#[derive(Clone, Copy)]
+struct Size {
+    across: usize,
+    down: usize,
+    shuttles: usize,
+    margin: usize,
+}
+
+const fn size(across: usize, down: usize, shuttles: usize, margin: usize) -> Size {
+    Size { across, down, shuttles, margin }
+}
+
+const SIZES: [Size; 11] = [
+    size(1, 1, 1, 0),
+    size(2, 1, 2, 0),
+    size(4, 2, 2, 0),
+    size(5, 5, 4, 0),
+    size(5, 5, 4, 1),
+    size(17, 1, 16, 0),
+    size(64, 1, 16, 1),
+    size(1, 64, 16, 0),
+    size(63, 64, 3, 0),
+    size(64, 64, 16, 0),
+    size(64, 64, 16, 1),
+];
 
 pub fn all(pair: &mut Pair) -> Result<(), Difference> {
-    for (across, down, shuttles) in SIZES {
+    for size in SIZES {
         for left in [0, 1, 255, 256] {
             for kind in [ORDER, STEP, ARRIVE] {
-                let good = Call::good(across, down, shuttles, left, kind);
+                let good = Call::good(size, left, kind);
                 check(pair, &good, &[])?;
                 for change in changes::ALL {
                     check(pair, &good, &[change])?;
@@ -63,8 +90,8 @@ pub fn all(pair: &mut Pair) -> Result<(), Difference> {
 
 /// Of two refusals that apply, the smaller number is answered.
 fn pairs(pair: &mut Pair) -> Result<(), Difference> {
-    for (across, down, shuttles) in [(5, 5, 4), (64, 64, 16)] {
-        let good = Call::good(across, down, shuttles, 256, STEP);
+    for size in [size(5, 5, 4, 1), size(64, 64, 16, 0)] {
+        let good = Call::good(size, 256, STEP);
         for (place, one) in changes::ALL.iter().enumerate().filter(|(_, one)| one.refusal > 0) {
             for other in changes::ALL[place + 1..].iter().filter(|other| other.refusal > one.refusal) {
                 check(pair, &good, &[one, other])?;

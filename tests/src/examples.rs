@@ -47,6 +47,7 @@ pub fn all(pair: &mut Pair) -> Result<(), Difference> {
     ROUTES.iter().try_for_each(|(route, is_one)| check_route(pair, route, *is_one))?;
     holds_both(pair)?;
     wall_in_the_way(pair)?;
+    row_ends(pair)?;
     ring_of_four(pair)?;
     no_shuttles(pair)
 }
@@ -111,6 +112,15 @@ fn wall_in_the_way(pair: &mut Pair) -> Result<(), Difference> {
     expect(&mut hall, pair, ORDER, 0, &[4, 5, 4, 0], NOT)?;
     expect(&mut hall, pair, ORDER, 0, &[1, 5, 1, 0], NOT)?;
     expect(&mut hall, pair, ORDER, 0, &[1, 2, 6, 2, 1, 0], HAPPENED)
+}
+
+/// The last square of a row and the first of the next have numbers that follow each other, but aren't beside.
+fn row_ends(pair: &mut Pair) -> Result<(), Difference> {
+    let mut hall = Hall::blank(Plan { bays: vec![0, 7], ..small() });
+    hall.start(pair)?;
+    expect(&mut hall, pair, ORDER, 0, &[1, 2, 3, 4, 0], NOT)?;
+    expect(&mut hall, pair, ORDER, 0, &[4, 3, 2, 1, 0], NOT)?;
+    expect(&mut hall, pair, ORDER, 0, &[1, 2, 3, 2, 6, 5, 4, 0], HAPPENED)
 }
 
 /// Bays around a block of two by two squares. Each shuttle wants the square that the next one enters; the fourth

@@ -68,7 +68,7 @@ impl Hall {
         let field = FieldNumbers { walls: self.walls.content(), bays: self.bays.content(), ..self.plan.numbers() };
         let answer = pair.entry.happen(field, self.memory.content_mut(), lent);
         pair.tally.count(outcome);
-        let call = |fault: String| format!("{fault}, outcome {outcome:?}, event {}", tell_event(event));
+        let call = |fault: String| format!("event {}, which is {outcome:?}: {fault}", tell_event(event));
         self.compare(answer, outcome.answer(), event.route).map_err(call)
     }
 
@@ -78,7 +78,7 @@ impl Hall {
         let field = FieldNumbers { walls: self.walls.content(), bays: self.bays.content(), ..self.plan.numbers() };
         let answer = pair.entry.start(field, self.memory.content_mut());
         pair.tally.calls += 1;
-        self.compare(answer, should, &[]).map_err(|fault| format!("{fault}, at start"))
+        self.compare(answer, should, &[]).map_err(|fault| format!("start: {fault}"))
     }
 
     fn compare(&self, answer: u64, should: u64, route: &[u16]) -> Result<u64, Difference> {
@@ -89,23 +89,19 @@ impl Hall {
             .or_else(|| self.bays.fault("bays", &self.plan.bays))
             .or_else(|| self.route.fault("the route", route));
         match fault {
-            Some(fault) => Err(format!("{fault}, {}", self.tell())),
+            Some(fault) => Err(format!("{fault}\nafter it should be:\n{}", self.picture())),
             None => Ok(answer),
         }
     }
 
-    fn tell(&self) -> String {
-        let Plan { across, down, bays, .. } = &self.plan;
-        format!("field {across} x {down}, bays {bays:?}")
-    }
-
     /// The field and the shuttles in full, to be read by somebody who looks for the fault.
     pub fn picture(&self) -> String {
+        let Plan { across, down, bays, .. } = &self.plan;
         let row = |marks: &[u8]| marks.iter().map(|&m| if m == 0 { '.' } else { '#' }).collect::<String>();
-        let across = usize::try_from(self.plan.across).ok().filter(|&a| (1..=64).contains(&a)).unwrap_or(64);
-        let rows: Vec<String> = self.plan.walls.chunks(across).map(row).collect();
+        let width = usize::try_from(*across).ok().filter(|width| (1..=64).contains(width)).unwrap_or(64);
+        let rows: Vec<String> = self.plan.walls.chunks(width).map(row).collect();
         let shuttles: Vec<String> = self.expected.chunks(PER_SHUTTLE).map(tell_shuttle).collect();
-        format!("{}\n{}\n{}", self.tell(), rows.join("\n"), shuttles.join("\n"))
+        format!("field {across} x {down}, bays {bays:?}\n{}\n{}", rows.join("\n"), shuttles.join("\n"))
     }
 }
 

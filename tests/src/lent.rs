@@ -48,3 +48,24 @@ impl<T: Copy + PartialEq + Debug> Lent<T> {
         Some(format!("{name} at {place} is {:?}, should be {:?}", content[place], expected[place]))
     }
 }
+
+#[cfg(test)]
+mod tests {
+    use super::*;
+
+    #[test]
+    fn a_write_outside_is_seen() {
+        for place in [0, GUARDS - 1, GUARDS + 3, 2 * GUARDS + 2] {
+            let mut lent = Lent::new(&[1u16, 2, 3], 9);
+            assert_eq!(lent.fault("numbers", &[1, 2, 3]), None);
+            lent.buffer[place] = 8;
+            assert!(lent.fault("numbers", &[1, 2, 3]).is_some_and(|fault| fault.contains("guard")));
+        }
+    }
+
+    #[test]
+    fn another_number_is_seen() {
+        let lent = Lent::new(&[1u16, 2, 3], 9);
+        assert!(lent.fault("numbers", &[1, 2, 4]).is_some_and(|fault| fault.contains("at 2")));
+    }
+}

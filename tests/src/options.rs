@@ -9,6 +9,7 @@ pub struct Options {
     pub cases: Option<u64>,
     pub kind: Option<Kind>,
     pub hall: Option<u64>,
+    pub only: Option<u64>,
 }
 
 impl Options {
@@ -24,6 +25,7 @@ impl Options {
                 "--seed" => options.seed = number(&value)?,
                 "--cases" => options.cases = Some(number(&value)?),
                 "--hall" => options.hall = Some(number(&value)?),
+                "--only" => options.only = Some(number(&value)?),
                 "--kind" => options.kind = Some(Kind::named(&value).ok_or(format!("no kind {value}"))?),
                 _ => return Err(format!("unknown option {word}")),
             }
@@ -39,6 +41,6 @@ impl Options {
     }
 }
 
-fn number(value: &str) -> Result<u64, String> {
+pub fn number(value: &str) -> Result<u64, String> {
     value.parse().map_err(|_| format!("{value} is no number"))
 }

@@ -4,21 +4,33 @@ use crate::entry::{ARRIVE, BEHIND, EventNumbers, HAPPENED, LENGTH, MARK, ORDER, 
 use crate::hall::{Difference, Hall, Pair};
 use crate::plan::{self, Plan};
 use crate::random::Random;
+use crate::ring::Ring;
+
+/// Where routes come from: random walks of at most so many steps, or for the most part the routes of a ring.
+enum Routes {
+    Walks(usize),
+    Ring(Vec<Vec<u16>>),
+}
 
 /// Plays one hall. What must never be is counted in the tally: collisions, being stuck, not coming home.
 pub fn hall(random: &mut Random, pair: &mut Pair) -> Result<(), Difference> {
-    let mut hall = Hall::blank(Plan::random(random));
+    let (plan, routes) = if random.one_in(4) {
+        let ring = Ring::random(random);
+        (ring.plan, Routes::Ring(ring.routes))
+    } else {
+        (Plan::random(random), Routes::Walks(*random.pick(&[3, 6, 12, 30, 128])))
+    };
+    let mut hall = Hall::blank(plan);
     hall.start(pair)?;
     pair.tally.halls += 1;
-    let longest = *random.pick(&[3, 6, 12, 30, 128]);
     for _ in 0..random.between(20, 200) {
-        event(random, pair, &mut hall, longest)?;
+        event(random, pair, &mut hall, &routes)?;
         pair.tally.collisions += u64::from(collision(&hall));
     }
     to_the_end(random, pair, &mut hall)
 }
 
-fn event(random: &mut Random, pair: &mut Pair, hall: &mut Hall, longest: usize) -> Result<(), Difference> {
+fn event(random: &mut Random, pair: &mut Pair, hall: &mut Hall, routes: &Routes) -> Result<(), Difference> {
     let count = hall.plan.bays.len();
     let shuttle = if random.one_in(200) { random.below(20) } else { random.below(count.max(1)) };
     let mut kind = random.below(3) as u64;
@@ -26,7 +38,7 @@ fn event(random: &mut Random, pair: &mut Pair, hall: &mut Hall, longest: usize) 
         kind = useful_kind(hall, shuttle);
     }
     let needs_route = kind == ORDER && shuttle < count;
-    let route = if needs_route { random_route(random, hall, shuttle, longest) } else { Vec::new() };
+    let route = if needs_route { random_route(random, hall, shuttle, routes) } else { Vec::new() };
     hall.happen(pair, EventNumbers { kind, shuttle: shuttle as u64, route: &route })?;
     Ok(())
 }
@@ -41,9 +53,14 @@ fn useful_kind(hall: &Hall, shuttle: usize) -> u64 {
     }
 }
 
-fn random_route(random: &mut Random, hall: &Hall, shuttle: usize, longest: usize) -> Vec<u16> {
+fn random_route(random: &mut Random, hall: &Hall, shuttle: usize, routes: &Routes) -> Vec<u16> {
     let field = hall.plan.field();
     let from = part_of(hall.memory(), shuttle)[SQUARE];
+    let longest = match routes {
+        Routes::Ring(routes) if !random.one_in(8) => return routes[shuttle].clone(),
+        Routes::Ring(_) => 12,
+        Routes::Walks(longest) => *longest,
+    };
     let steps = random.between(0, longest);
     let mut route = plan::route(random, &field, shuttle, from, steps);
     if random.one_in(4) {

@@ -37,6 +37,11 @@ impl Random {
         self.below(many) == 0
     }
 
+    /// A number below `count`, now and then `count` itself, which is one too many.
+    pub fn below_or_past(&mut self, count: usize) -> usize {
+        if count == 0 || self.one_in(25) { count } else { self.below(count) }
+    }
+
     pub fn pick<'a, T>(&mut self, from: &'a [T]) -> &'a T {
         &from[self.below(from.len())]
     }

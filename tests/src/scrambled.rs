@@ -31,6 +31,9 @@ pub fn hall(random: &mut Random, pair: &mut Pair) -> Result<(), Difference> {
         for _ in 0..random.between(1, 6) {
             event(random, pair, &mut hall)?;
         }
+        if count > 0 {
+            order_to_idle(random, pair, &mut hall)?;
+        }
         if random.one_in(3) {
             let damaged = damaged(random, &hall);
             hall.set_memory(damaged);
@@ -42,8 +45,7 @@ pub fn hall(random: &mut Random, pair: &mut Pair) -> Result<(), Difference> {
 
 fn event(random: &mut Random, pair: &mut Pair, hall: &mut Hall) -> Result<(), Difference> {
     let count = hall.plan.bays.len();
-    let past = usize::from(count == 0 || random.one_in(20));
-    let shuttle = random.below(count + past);
+    let shuttle = random.below_or_past(count);
     let kind = *random.pick(&[ORDER, ORDER, STEP, STEP, ARRIVE]);
     let route = match (kind, random.below(20)) {
         (_, 0) => any_route(random),
@@ -51,6 +53,24 @@ fn event(random: &mut Random, pair: &mut Pair, hall: &mut Hall) -> Result<(), Di
         _ => Vec::new(),
     };
     hall.happen(pair, EventNumbers { kind, shuttle: shuttle as u64, route: &route })?;
+    Ok(())
+}
+
+/// Lets one shuttle stand with nothing left on the square where it is, and gives it orders.
+fn order_to_idle(random: &mut Random, pair: &mut Pair, hall: &mut Hall) -> Result<(), Difference> {
+    let shuttle = random.below(hall.plan.bays.len());
+    let mut memory = hall.memory().to_vec();
+    let part = part_of_mut(&mut memory, shuttle);
+    part[MARK] = 0;
+    part[LENGTH] = 0;
+    if random.one_in(2) {
+        part[SQUARE] = hall.plan.bays[shuttle];
+    }
+    hall.set_memory(memory);
+    for _ in 0..3 {
+        let route = home_route(random, hall, shuttle);
+        hall.happen(pair, EventNumbers { kind: ORDER, shuttle: shuttle as u64, route: &route })?;
+    }
     Ok(())
 }
 
