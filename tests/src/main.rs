@@ -60,7 +60,7 @@ fn main() -> ExitCode {
 fn perform(options: &Options) -> Result<ExitCode, String> {
     let extent = |calls| Extent { seed: options.seed, calls: options.cases.unwrap_or(calls), only: options.hall };
     let groups = match options.words().as_slice() {
-        ["library"] => library(options, extent(1_000_000))?,
+        ["library"] => library(options, extent(3_000_000))?,
         ["copy"] => compared(&mut wrong::copy::RulesCopy { fault: None }, options, extent(1_000_000)),
         ["wrong-copies"] => wrong_copies::all(extent(20_000)),
         ["texts", judge, play] => texts(options, judge, play).map_err(|error| error.to_string())?,
