@@ -1,5 +1,6 @@
 //! Compares the library and the two programs with a reference that is written from the rules alone.
 
+mod bench;
 mod boundaries;
 mod changes;
 mod compare;
@@ -11,6 +12,8 @@ mod lent;
 mod library;
 mod model;
 mod options;
+#[path = "../../bench/src/plain.rs"]
+mod plain;
 mod plan;
 mod playing;
 mod programs;
@@ -22,6 +25,8 @@ mod scrambled;
 mod tally;
 mod text_examples;
 mod texts;
+#[path = "../../bench/src/tuned.rs"]
+mod tuned;
 mod wrong;
 mod wrong_copies;
 
@@ -36,6 +41,7 @@ use texts::Program;
 const HELP: &str = "\
 trials library       compares the static library with the reference (built with --features library)
 trials copy          compares a copy of the rules by another algorithm with it
+trials bench         compares the two Rust variants that the library's speed is measured beside
 trials wrong-copies  shows that each of many wrong copies is caught
 trials texts JUDGE PLAY
                      runs the two programs on random texts and compares what they print with the models
@@ -62,6 +68,7 @@ fn perform(options: &Options) -> Result<ExitCode, String> {
     let groups = match options.words().as_slice() {
         ["library"] => library(options, extent(3_000_000))?,
         ["copy"] => compared(&mut wrong::copy::RulesCopy { fault: None }, options, extent(1_000_000)),
+        ["bench"] => bench::all(extent(300_000)),
         ["wrong-copies"] => wrong_copies::all(extent(20_000)),
         ["texts", judge, play] => texts(options, judge, play).map_err(|error| error.to_string())?,
         ["model", name] => return show_model(program(name)?).map_err(|error| error.to_string()),
