@@ -133,9 +133,10 @@ pub fn all() -> Vec<Case> {
         arrival(),
         small(),
     ];
-    cases.extend([1, 2, 4, 8, 16, 32, 64, 128, 256].map(|left| {
-        Case::free(&format!("step granted, {} squares left in all", 16 * left), 16, left)
-    }));
+    cases.extend(
+        [1, 2, 4, 8, 16, 32, 64, 128, 256]
+            .map(|left| Case::free(&format!("step granted, {} squares left in all", 16 * left), 16, left)),
+    );
     cases.extend([1, 2, 4, 8, 12, 16].map(|count| Case::free(&format!("step granted, {count} shuttles"), count, 256)));
     cases
 }

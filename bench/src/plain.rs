@@ -64,9 +64,9 @@ pub fn field_fits(across: u64, down: u64, walls: &[u8], bays: &[u16]) -> bool {
     if walls.iter().fold(0, |top, &mark| top.max(mark)) > 1 || bays.len() > 16 {
         return false;
     }
-    bays.iter().enumerate().all(|(i, &bay)| {
-        walls.get(usize::from(bay)).is_some_and(|&mark| mark == 0) && !bays[..i].contains(&bay)
-    })
+    bays.iter()
+        .enumerate()
+        .all(|(i, &bay)| walls.get(usize::from(bay)).is_some_and(|&mark| mark == 0) && !bays[..i].contains(&bay))
 }
 
 fn memory_fits(squares: usize, shuttles: usize, memory: &[u16]) -> bool {

@@ -6,9 +6,11 @@ use crate::report::Group;
 use crate::wrong::copy::RulesCopy;
 use crate::{plain, tuned};
 
+type Happen = fn(u64, u64, &[u8], &[u16], &mut [u16], u64, u64, &[u16]) -> u64;
+
 struct Variant {
     name: &'static str,
-    happen: fn(u64, u64, &[u8], &[u16], &mut [u16], u64, u64, &[u16]) -> u64,
+    happen: Happen,
 }
 
 impl Entry for Variant {
@@ -24,8 +26,7 @@ impl Entry for Variant {
 }
 
 pub fn all(extent: Extent) -> Vec<Group> {
-    let variants =
-        [Variant { name: "plain", happen: plain::happen }, Variant { name: "tuned", happen: tuned::happen }];
+    let variants = [Variant { name: "plain", happen: plain::happen }, Variant { name: "tuned", happen: tuned::happen }];
     let groups = |mut variant: Variant| {
         let named = move |group: Group| Group { name: format!("{}, {}", variant.name, group.name), ..group };
         compare::all(&mut variant, extent).into_iter().map(named)

@@ -115,10 +115,8 @@ fn invariants(runs: &[(Kind, Run)]) -> Group {
 
 /// A run that never meets one of the outcomes has not tested it.
 fn outcomes(runs: &[(Kind, Run)]) -> Group {
-    let missing: Vec<Outcome> = Outcome::ALL
-        .into_iter()
-        .filter(|&outcome| runs.iter().all(|(_, run)| run.tally.of(outcome) == 0))
-        .collect();
+    let missing: Vec<Outcome> =
+        Outcome::ALL.into_iter().filter(|&outcome| runs.iter().all(|(_, run)| run.tally.of(outcome) == 0)).collect();
     Group {
         name: "outcomes".to_string(),
         done: format!("each of {} occurred", Outcome::ALL.len()),

@@ -52,12 +52,22 @@ pub fn all(pair: &mut Pair) -> Result<(), Difference> {
     no_shuttles(pair)
 }
 
-fn expect(hall: &mut Hall, pair: &mut Pair, kind: u64, shuttle: u64, route: &[u16], answer: u64) -> Result<(), Difference> {
+fn expect(
+    hall: &mut Hall,
+    pair: &mut Pair,
+    kind: u64,
+    shuttle: u64,
+    route: &[u16],
+    answer: u64,
+) -> Result<(), Difference> {
     let got = hall.happen(pair, EventNumbers { kind, shuttle, route })?;
     if got == answer {
         return Ok(());
     }
-    Err(format!("both answer {got}, worked out by hand {answer}: event {kind} of {shuttle} {route:?}\n{}", hall.picture()))
+    Err(format!(
+        "both answer {got}, worked out by hand {answer}: event {kind} of {shuttle} {route:?}\n{}",
+        hall.picture()
+    ))
 }
 
 fn check_row(pair: &mut Pair, row: &Row) -> Result<(), Difference> {

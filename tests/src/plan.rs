@@ -95,8 +95,7 @@ fn way_home(random: &mut Random, field: &Field, shuttle: usize, from: u16) -> Ve
     let mut way = Vec::new();
     let mut at = from;
     while let Some(left @ 1..) = distance[usize::from(at)] {
-        let nearer: Vec<u16> =
-            neighbours(field, at).filter(|&c| distance[usize::from(c)] == Some(left - 1)).collect();
+        let nearer: Vec<u16> = neighbours(field, at).filter(|&c| distance[usize::from(c)] == Some(left - 1)).collect();
         if nearer.is_empty() {
             break;
         }

@@ -124,7 +124,13 @@ impl Programs {
         for word in [Path::new("--unknown-option"), &self.folder.join("missing")] {
             let ended = with(word)?;
             if ended.status.code() != Some(1) || ended.errors.is_empty() || !ended.output.is_empty() {
-                return Ok(Some(format!("{} ended with {}, {} bytes of output and {} of errors", word.display(), ended.status, ended.output.len(), ended.errors.len())));
+                return Ok(Some(format!(
+                    "{} ended with {}, {} bytes of output and {} of errors",
+                    word.display(),
+                    ended.status,
+                    ended.output.len(),
+                    ended.errors.len()
+                )));
             }
         }
         let closed = self.run(Command::new("sh").args(["-c", "exec \"$0\" <&-"]).arg(path).stdin(Stdio::null()))?;

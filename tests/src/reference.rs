@@ -6,7 +6,9 @@ pub mod fleet;
 pub mod route;
 pub mod safety;
 
-use crate::entry::{self, ARRIVE, Entry, EventNumbers, FieldNumbers, HAPPENED, MOST_LEFT, NOT, ORDER, PER_SHUTTLE, STEP};
+use crate::entry::{
+    self, ARRIVE, Entry, EventNumbers, FieldNumbers, HAPPENED, MOST_LEFT, NOT, ORDER, PER_SHUTTLE, STEP,
+};
 use crate::random::Random;
 use field::Field;
 use fleet::Shuttle;

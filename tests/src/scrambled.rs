@@ -162,10 +162,8 @@ fn in_the_way(random: &mut Random, count: usize, shape: Shape) -> Option<Vec<Vec
 fn left(random: &mut Random, on: &[u16], squares: usize, wanted: Option<Vec<u16>>, longest: usize) -> Vec<u16> {
     let length = random.between(0, longest);
     let any = wanted.is_none();
-    let mut left: Vec<u16> = (0..length)
-        .map(|_| random.below(squares) as u16)
-        .filter(|square| any || !on.contains(square))
-        .collect();
+    let mut left: Vec<u16> =
+        (0..length).map(|_| random.below(squares) as u16).filter(|square| any || !on.contains(square)).collect();
     for square in wanted.unwrap_or_default() {
         if left.len() < MOST_LEFT - 1 {
             left.insert(random.below(left.len() + 1), square);

@@ -1,5 +1,6 @@
 //! Programs that only look right: the rules once more, each time with one fault, to see whether the tests find it.
 
+mod blocking;
 pub mod copy;
 
 macro_rules! faults {

@@ -4,10 +4,10 @@ use super::{Lines, Refusal, plan_of, shuttle, squares, ways};
 use crate::entry::{ARRIVE, Entry, EventNumbers, HAPPENED, MOST_LEFT, ORDER, PER_SHUTTLE, STEP, part_of};
 use crate::plan::Plan;
 use crate::random::Random;
+use crate::reference::Reference;
 use crate::reference::field::Way;
 use crate::reference::fleet;
 use crate::reference::route::OUTSIDE;
-use crate::reference::Reference;
 
 enum Command {
     Nothing,

@@ -46,8 +46,7 @@ fn in_the_way(this: &Shuttle, other: &Shuttle) -> bool {
 
 pub fn by_all_orders(fleet: &[Shuttle]) -> bool {
     let runs = |order: &Vec<usize>| {
-        (0..order.len())
-            .all(|k| order[k + 1..].iter().all(|&behind| !in_the_way(&fleet[order[k]], &fleet[behind])))
+        (0..order.len()).all(|k| order[k + 1..].iter().all(|&behind| !in_the_way(&fleet[order[k]], &fleet[behind])))
     };
     orders(fleet.len()).iter().any(runs)
 }
@@ -71,17 +70,14 @@ pub fn by_subsets(fleet: &[Shuttle]) -> bool {
     let mut runs = vec![false; 1 << fleet.len()];
     runs[0] = true;
     for set in 1..runs.len() {
-        runs[set] = (0..fleet.len())
-            .any(|i| set & (1 << i) != 0 && blockers[i] & set == 0 && runs[set & !(1 << i)]);
+        runs[set] = (0..fleet.len()).any(|i| set & (1 << i) != 0 && blockers[i] & set == 0 && runs[set & !(1 << i)]);
     }
     runs[runs.len() - 1]
 }
 
 /// The set of those that are in the way of shuttle i.
 fn blockers(fleet: &[Shuttle], i: usize) -> usize {
-    (0..fleet.len())
-        .filter(|&j| j != i && in_the_way(&fleet[i], &fleet[j]))
-        .fold(0, |set, j| set | 1 << j)
+    (0..fleet.len()).filter(|&j| j != i && in_the_way(&fleet[i], &fleet[j])).fold(0, |set, j| set | 1 << j)
 }
 
 /// Takes out, again and again, any shuttle that can run.

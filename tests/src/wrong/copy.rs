@@ -2,6 +2,7 @@
 //! for each shuttle as bits. Without a fault it must agree with the reference in everything.
 
 use super::Fault;
+use super::blocking::{all_can_run, all_run_past_bays, at_home, has_ring, take_out_once};
 use crate::entry::{self, ARRIVE, Entry, EventNumbers, FieldNumbers, HAPPENED, NOT, ORDER, STEP};
 use crate::entry::{BEHIND, LENGTH, MARK, MOST_LEFT, PER_SHUTTLE, PLACES, SQUARE, part_of, part_of_mut};
 
@@ -224,53 +225,6 @@ impl RulesCopy {
 }
 
 /// What is left of the route in the part of memory of one shuttle.
-fn left(part: &[u16]) -> &[u16] {
+pub fn left(part: &[u16]) -> &[u16] {
     &part[PLACES..PLACES + usize::from(part[LENGTH]).min(MOST_LEFT)]
-}
-
-/// The set after each that can run was taken out, once round.
-fn take_out_once(blockers: &[u32], set: u32) -> u32 {
-    (0..blockers.len()).fold(set, |set, i| if blockers[i] & set == 0 { set & !(1 << i) } else { set })
-}
-
-fn all_can_run(blockers: &[u32]) -> bool {
-    let mut set = (1u32 << blockers.len()) - 1;
-    loop {
-        let smaller = take_out_once(blockers, set);
-        if smaller == set {
-            return set == 0;
-        }
-        set = smaller;
-    }
-}
-
-/// Whether a ring of at most so many shuttles blocks itself.
-fn has_ring(blockers: &[u32], most: usize) -> bool {
-    let next = |set: u32| (0..blockers.len()).filter(|j| set & (1 << j) != 0).fold(0, |all, j| all | blockers[j]);
-    (0..blockers.len()).any(|i| {
-        let mut reached = 1u32 << i;
-        (0..most).any(|_| {
-            reached = next(reached);
-            reached & (1 << i) != 0
-        })
-    })
-}
-
-/// For each shuttle the set of the others whose bays are among what is left to it.
-fn at_home(field: FieldNumbers, memory: &[u16]) -> Vec<u32> {
-    let bays_met = |i: usize, part: &[u16]| {
-        let met = |j: &usize| *j != i && left(part).contains(&field.bays[*j]);
-        (0..field.bays.len()).filter(met).fold(0, |set, j| set | 1 << j)
-    };
-    memory.chunks(PER_SHUTTLE).enumerate().map(|(i, part)| bays_met(i, part)).collect()
-}
-
-fn all_run_past_bays(blockers: &[u32], at_home: &[u32]) -> bool {
-    let mut set = (1u32 << blockers.len()) - 1;
-    while let Some(i) = (0..blockers.len())
-        .find(|&i| set & (1 << i) != 0 && blockers[i] & set == 0 && at_home[i] & !set == 0)
-    {
-        set &= !(1 << i);
-    }
-    set == 0
 }
