@@ -135,8 +135,8 @@ pub fn all() -> Vec<Case> {
     ];
     cases.extend(
         [1, 2, 4, 8, 16, 32, 64, 128, 256]
-            .map(|left| Case::free(&format!("step granted, {} squares left in all", 16 * left), 16, left)),
+            .map(|left| Case::free(&format!("step granted, squares left in all: {}", 16 * left), 16, left)),
     );
-    cases.extend([1, 2, 4, 8, 12, 16].map(|count| Case::free(&format!("step granted, {count} shuttles"), count, 256)));
+    cases.extend([1, 2, 4, 8, 12, 16].map(|count| Case::free(&format!("step granted, shuttles: {count}"), count, 256)));
     cases
 }
