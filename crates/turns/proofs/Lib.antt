@@ -1,0 +1,3 @@
+-- The proofs of what is stated of ticks.
+pub mod Ticks
+pub mod Bounds

@@ -1,0 +1,5 @@
+-- Ticks: in each the arrivals that are due are made, and the one that has waited longest is granted its step. Definitions and statements.
+pub mod Tick
+pub mod Rows
+pub mod Bound
+pub mod Home

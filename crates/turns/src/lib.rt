@@ -1,0 +1,39 @@
+// What is proved of ticks. Each function says one statement in its contract, so that the check asks for its proof; it
+// computes nothing.
+ghost use Rattle.turns.specs.Rows.{Ticks-are-rows, Due-come, Waits-count, Longest-first};
+ghost use Rattle.turns.specs.Bound.{All-done-in-time};
+
+// A tick is a row of the arrivals that are due and then at most one step, each of which happens.
+pub fn ticks_are_rows_stands() -> u8
+    ensures { λ _. ⌜ Ticks-are-rows ⌝ }
+{
+    0
+}
+
+// Each arrival that is due is made, and nothing else.
+pub fn due_come_stands() -> u8
+    ensures { λ _. ⌜ Due-come ⌝ }
+{
+    0
+}
+
+// Who stands with something left has waited one more, and every other has not waited.
+pub fn waits_count_stands() -> u8
+    ensures { λ _. ⌜ Waits-count ⌝ }
+{
+    0
+}
+
+// Of those whose steps are granted the one that has waited longest is chosen, of equals the lowest.
+pub fn longest_first_stands() -> u8
+    ensures { λ _. ⌜ Longest-first ⌝ }
+{
+    0
+}
+
+// Where arrivals come within d ticks and nothing is stuck, all is done after (left + 1) times d ticks.
+pub fn all_done_in_time_stands() -> u8
+    ensures { λ _. ⌜ All-done-in-time ⌝ }
+{
+    0
+}
