@@ -1,3 +1,4 @@
 -- The proofs of what is stated of ticks.
 pub mod Ticks
 pub mod Bounds
+pub mod Home

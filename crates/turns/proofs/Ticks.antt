@@ -165,7 +165,8 @@ chooses f g ws (suc k) l = on (chosen-to f g ws k) refl (chooses f g ws k (omega
               (λ (d : i ≡ k).
               let g′ : grants f g k ≡ true = subst (λ x. grants f g x ≡ true) d h in
               let w : getD ws i 0 ≡ getD ws k 0 = ap (λ x. getD ws x 0) d in
-              let o : getD ws k 0 ≤ getD ws b 0 = ltb-false _ _ (⊎-elim (λ z. absurd (both-ways _ z g′)) (λ z. or-parts _ _ z .1) (and-cases _ _ e)) in
+              let o : getD ws k 0 ≤ getD ws b 0 = ltb-false (getD ws b 0) (getD ws k 0)
+                  (⊎-elim (λ z. absurd (both-ways (grants f g k) z g′)) (λ z. or-parts (eqb b n) _ z .1) (and-cases (grants f g k) _ e)) in
               let u = t .below in
               ⊎-elim (λ y. inl y) (λ (y : getD ws b 0 ≤ getD ws i 0). inr (omega arith, omega arith)) (cases-lt (getD ws i 0) (getD ws b 0))) (split i c);
         })))
@@ -205,7 +206,7 @@ pub record Come-row (f : Field) (es : List Event) (marks : List ℕ) (g : Fleet)
   pub drives : Drives f es ds
   pub same : g ≡ after f (ds ++ es)
 
-come-row : (f : Field) (es : List Event) (marks : List ℕ) (k : ℕ) → k ≤ f .shuttles → Come-row f es marks (come-to f (after f es) marks k)
+pub come-row : (f : Field) (es : List Event) (marks : List ℕ) (k : ℕ) → k ≤ f .shuttles → Come-row f es marks (come-to f (after f es) marks k)
 unfolding come-to come due-arrivals due-arrival after no-order
 come-row f es marks zero l = record { ds = []; due = refl; drives = nothing; same = refl }
 come-row f es marks (suc k) l = on (come-row f es marks k (omega arith))

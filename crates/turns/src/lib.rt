@@ -2,6 +2,7 @@
 // computes nothing.
 ghost use Rattle.turns.specs.Rows.{Ticks-are-rows, Due-come, Waits-count, Longest-first};
 ghost use Rattle.turns.specs.Bound.{All-done-in-time};
+ghost use Rattle.turns.specs.Home.{Home-in-time, Home-by-ticks};
 
 // A tick is a row of the arrivals that are due and then at most one step, each of which happens.
 pub fn ticks_are_rows_stands() -> u8
@@ -34,6 +35,20 @@ pub fn longest_first_stands() -> u8
 // Where arrivals come within d ticks and nothing is stuck, all is done after (left + 1) times d ticks.
 pub fn all_done_in_time_stands() -> u8
     ensures { λ _. ⌜ All-done-in-time ⌝ }
+{
+    0
+}
+
+// By ticks alone, whichever granted steps are chosen, all are home after (squares left + 1) times d ticks.
+pub fn home_in_time_stands() -> u8
+    ensures { λ _. ⌜ Home-in-time ⌝ }
+{
+    0
+}
+
+// And so where the one that has waited longest is chosen.
+pub fn home_by_ticks_stands() -> u8
+    ensures { λ _. ⌜ Home-by-ticks ⌝ }
 {
     0
 }
