@@ -2,3 +2,4 @@
 pub mod Ticks
 pub mod Bounds
 pub mod Home
+pub mod Starving

@@ -3,3 +3,5 @@ pub mod Tick
 pub mod Rows
 pub mod Bound
 pub mod Home
+pub mod Night
+pub mod Starving

@@ -3,6 +3,7 @@
 ghost use Rattle.turns.specs.Rows.{Ticks-are-rows, Due-come, Waits-count, Longest-first};
 ghost use Rattle.turns.specs.Bound.{All-done-in-time};
 ghost use Rattle.turns.specs.Home.{Home-in-time, Home-by-ticks};
+ghost use Rattle.turns.specs.Starving.{Starves};
 
 // A tick is a row of the arrivals that are due and then at most one step, each of which happens.
 pub fn ticks_are_rows_stands() -> u8
@@ -49,6 +50,14 @@ pub fn home_in_time_stands() -> u8
 // And so where the one that has waited longest is chosen.
 pub fn home_by_ticks_stands() -> u8
     ensures { λ _. ⌜ Home-by-ticks ⌝ }
+{
+    0
+}
+
+// Where others are ordered again and again, one may wait for ever: in a hall of six squares the same fleets come again
+// every eight ticks, and one shuttle never gets a step.
+pub fn starves_stands() -> u8
+    ensures { λ _. ⌜ Starves ⌝ }
 {
     0
 }
