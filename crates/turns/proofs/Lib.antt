@@ -3,3 +3,4 @@ pub mod Ticks
 pub mod Bounds
 pub mod Home
 pub mod Starving
+pub mod Fair

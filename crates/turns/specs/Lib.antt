@@ -5,3 +5,4 @@ pub mod Bound
 pub mod Home
 pub mod Night
 pub mod Starving
+pub mod Parts
