@@ -4,3 +4,4 @@ pub mod Bounds
 pub mod Home
 pub mod Starving
 pub mod Fair
+pub mod Parts
