@@ -5,3 +5,4 @@ pub mod Home
 pub mod Starving
 pub mod Fair
 pub mod Parts
+pub mod Patience

@@ -43,11 +43,11 @@ unfolding is-bay is-bay-to
 bay-is f j c l e = any-to-from (λ i. eqb (f .bay i) c) (f .shuttles) j l (eq-eqb _ _ (sym e))
 
 -- an open square is nobody's bay
-not-bay : (f : Field) (j c : ℕ) → j < f .shuttles → open-square f c ≡ true → c ≡ f .bay j → ⊥
+pub not-bay : (f : Field) (j c : ℕ) → j < f .shuttles → open-square f c ≡ true → c ≡ f .bay j → ⊥
 not-bay f j c l o e = both-ways _ (open-is f c o .1) (bay-is f j c l e)
 
 -- where a step leads: to an open square, or to the bay at the very end
-next-is : (f : Field) (i c d : ℕ) (ds : List ℕ) → route-ok f i c (d ∷ ds) ≡ true →
+pub next-is : (f : Field) (i c d : ℕ) (ds : List ℕ) → route-ok f i c (d ∷ ds) ≡ true →
     (open-square f d ≡ true) ⊎ ((d ≡ f .bay i) × (is-empty ds ≡ true))
 unfolding open-square
 next-is f i c d ds h =
@@ -55,7 +55,7 @@ next-is f i c d ds h =
     ⊎-elim (λ o. inl (and-from _ _ (s .free) o)) (λ o. let (a, b) = and-parts _ _ o in inr (eqb-true _ _ a, b)) (or-cases _ _ (s .bays))
 
 module _ (f : Field) (part : ℕ → ℕ) (two : Two-bays f part) where
-  step-mine : (i c d : ℕ) (ds : List ℕ) → route-ok f i c (d ∷ ds) ≡ true → Mine f part i c → Mine f part i d
+  pub step-mine : (i c d : ℕ) (ds : List ℕ) → route-ok f i c (d ∷ ds) ≡ true → Mine f part i c → Mine f part i d
   unfolding touches free-square
   step-mine i c d ds h m =
       let s = route-tells f i c d ds h in
@@ -71,7 +71,7 @@ module _ (f : Field) (part : ℕ → ℕ) (two : Two-bays f part) where
       (next-is f i c d ds h)
 
   -- all open squares of a route from an open square are in its part
-  one-part : (i c : ℕ) (r : List ℕ) → open-square f c ≡ true → route-ok f i c r ≡ true → (x : ℕ) → among x r ≡ true →
+  pub one-part : (i c : ℕ) (r : List ℕ) → open-square f c ≡ true → route-ok f i c r ≡ true → (x : ℕ) → among x r ≡ true →
       (x ≡ f .bay i) ⊎ ((open-square f x ≡ true) × (part x ≡ part c))
   unfolding among is-empty
   one-part i c [] o h x a = absurd (both-ways false refl a)
