@@ -9,20 +9,22 @@ use Rattle.std.proofs.shelf.Tests.{both-ways, cases-lt, ltb-true, ltb-false}
 use Rattle.agents.proofs.Tests.{some-below, false-from}
 use Rattle.turns.specs.Bound.{Ticking, Begins, Comes-within, All-done-in-time}
 
-module _ (n : ℕ) (left : ℕ → ℕ) (moves due : ℕ → ℕ → Bool) (whose : ℕ → ℕ) (r : Ticking n left moves due whose) where
-  -- whoever is on its way at any time is due within the next d ticks
-  due-soon : (d : ℕ) → Comes-within n moves due whose d → (t i : ℕ) → i < n → moves t i ≡ true → (k : ℕ) × (k < d) × (due (t + k) i ≡ true)
-  due-soon d c zero i l m = c zero i l m (inl refl)
-  due-soon d c (suc u) i l m =
-      let before : moves u i ≡ true → (k : ℕ) × (k < d) × (due (u + k) i ≡ true) = due-soon d c u i l in
-      ⊎-elim (λ (e : whose u ≡ i). c (suc u) i l m (inr (u, refl, e)))
-      (λ (p : (moves u i ≡ true) × (due u i ≡ false)). later (p .1) (before (p .0)))
-      (r .on-its-way u i l m)
-    where
-      later : due u i ≡ false → (k : ℕ) × (k < d) × (due (u + k) i ≡ true) → (k : ℕ) × (k < d) × (due (suc u + k) i ≡ true)
-      later o (zero, a, e) = absurd (both-ways _ o (subst (λ x. due x i ≡ true) (omega arith) e))
-      later o (suc k, a, e) = (k, omega arith, subst (λ x. due x i ≡ true) (omega arith) e)
+-- whoever is on its way at any time is due within the next d ticks
+pub due-soon : (n : ℕ) (moves due : ℕ → ℕ → Bool) (whose : ℕ → ℕ) (d : ℕ) →
+    ((t i : ℕ) → i < n → moves (suc t) i ≡ true → (whose t ≡ i) ⊎ ((moves t i ≡ true) × (due t i ≡ false))) →
+    Comes-within n moves due whose d → (t i : ℕ) → i < n → moves t i ≡ true → (k : ℕ) × (k < d) × (due (t + k) i ≡ true)
+due-soon n moves due whose d r c zero i l m = c zero i l m (inl refl)
+due-soon n moves due whose d r c (suc u) i l m =
+    let before : moves u i ≡ true → (k : ℕ) × (k < d) × (due (u + k) i ≡ true) = due-soon n moves due whose d r c u i l in
+    ⊎-elim (λ (e : whose u ≡ i). c (suc u) i l m (inr (u, refl, e)))
+    (λ (p : (moves u i ≡ true) × (due u i ≡ false)). later (p .1) (before (p .0)))
+    (r u i l m)
+  where
+    later : due u i ≡ false → (k : ℕ) × (k < d) × (due (u + k) i ≡ true) → (k : ℕ) × (k < d) × (due (suc u + k) i ≡ true)
+    later o (zero, a, e) = absurd (both-ways _ o (subst (λ x. due x i ≡ true) (omega arith) e))
+    later o (suc k, a, e) = (k, omega arith, subst (λ x. due x i ≡ true) (omega arith) e)
 
+module _ (n : ℕ) (left : ℕ → ℕ) (moves due : ℕ → ℕ → Bool) (whose : ℕ → ℕ) (r : Ticking n left moves due whose) where
   -- while nothing is granted, whoever is on its way was so before and was not due
   still : (t m : ℕ) → ((k : ℕ) → k < m → n ≤ whose (t + k)) → (i : ℕ) → i < n → moves (t + m) i ≡ true →
       (k : ℕ) → k < m → due (t + k) i ≡ false
@@ -52,7 +54,7 @@ module _ (n : ℕ) (left : ℕ → ℕ) (moves due : ℕ → ℕ → Bool) (whos
     at-rest : (t : ℕ) → ((k : ℕ) → k < max d 1 → n ≤ whose (t + k)) → (i : ℕ) → i < n → moves (t + max d 1) i ≡ false
     at-rest t g i l = false-from _ (λ e.
         let first : moves t i ≡ true = back (max d 1) g e in
-        let (k, a, b) = due-soon d c t i l first in
+        let (k, a, b) = due-soon n moves due whose d (r .on-its-way) c t i l first in
         both-ways _ (still t (max d 1) g i l e k (omega arith)) b)
       where
         back : (m : ℕ) → ((k : ℕ) → k < m → n ≤ whose (t + k)) → moves (t + m) i ≡ true → moves t i ≡ true

@@ -5,4 +5,7 @@ pub mod Home
 pub mod Starving
 pub mod Fair
 pub mod Parts
+pub mod Choices
 pub mod Patience
+pub mod Comings
+pub mod Nights

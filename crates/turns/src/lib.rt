@@ -4,6 +4,7 @@ ghost use Rattle.turns.specs.Rows.{Ticks-are-rows, Due-come, Waits-count, Long
 ghost use Rattle.turns.specs.Bound.{All-done-in-time};
 ghost use Rattle.turns.specs.Home.{Home-in-time, Home-by-ticks};
 ghost use Rattle.turns.specs.Starving.{Starves};
+ghost use Rattle.turns.specs.Parts.{Nobody-starves, Each-comes-home};
 
 // A tick is a row of the arrivals that are due and then at most one step, each of which happens.
 pub fn ticks_are_rows_stands() -> u8
@@ -58,6 +59,21 @@ pub fn home_by_ticks_stands() -> u8
 // every eight ticks, and one shuttle never gets a step.
 pub fn starves_stands() -> u8
     ensures { λ _. ⌜ Starves ⌝ }
+{
+    0
+}
+
+// Where no part of the field touches three bays, whoever waits gets its step within a number of ticks, whatever is
+// ordered of the others.
+pub fn nobody_starves_stands() -> u8
+    ensures { λ _. ⌜ Nobody-starves ⌝ }
+{
+    0
+}
+
+// And there each comes home.
+pub fn each_comes_home_stands() -> u8
+    ensures { λ _. ⌜ Each-comes-home ⌝ }
 {
     0
 }
