@@ -12,47 +12,10 @@ use Rattle.rules.specs.Shuttle.{Fleet, stepped, arrived}
 use Rattle.rules.proofs.Tests.{empty-from}
 use Rattle.promise.proofs.Places.{steps}
 use Rattle.turns.specs.Tick.{waits}
-use Rattle.turns.specs.Parts.{Two-bays}
-use Rattle.turns.proofs.Choices.{Choices, waits-from, waits-tells}
+use Rattle.turns.proofs.Choices.{Choices, waits-from, stops, shorter}
 
-module _ (f : Field) (part : ℕ → ℕ) (two : Two-bays f part) (d : ℕ) (h : ℕ → Fleet) (w : ℕ → ℕ → ℕ) (c : ℕ → ℕ) (due : ℕ → ℕ → Bool)
-    (r : Choices f part two d h w c due) (i : ℕ) (l : i < f .shuttles) where
-  -- it comes to stand within so many ticks, with as much left
-  abbrev Stood : ℕ → ℕ → Type 0
-  Stood k t = (j : ℕ) × (j ≤ k) × (h (t + j) i .moving ≡ false) × (h (t + j) i .route ≡ h t i .route)
-
-  stops-by : (k t : ℕ) → h t i .moving ≡ true → (h (suc t) i ≡ h t i → due (suc t) i ≡ false → Stood (suc k) t) → Stood (suc k) t
-  unfolding arrived
-  stops-by k t v more = ⊎-elim
-      (λ (g : (h (suc t) i ≡ h t i) × (due (suc t) i ≡ false)). more (g .0) (g .1))
-      (λ (g : h (suc t) i ≡ arrived (h t i)).
-      let z : suc t ≡ t + 1 = omega arith in
-      (1, omega arith, subst (λ u. h u i .moving ≡ false) z (ap (λ o. o .moving) g), subst (λ u. h u i .route ≡ h t i .route) z (ap (λ o. o .route) g)))
-      (r .driving t i l v)
-
-  stops : (k t : ℕ) → h t i .moving ≡ true → due (t + suc k) i ≡ true → Stood (suc k) t
-  stops zero t v q = stops-by zero t v (λ g o. let z : t + 1 ≡ suc t = omega arith in absurd (both-ways _ o (subst (λ u. due u i ≡ true) z q)))
-  stops (suc k) t v q =
-      let rest : h (suc t) i .moving ≡ true → due (suc t + suc k) i ≡ true → Stood (suc k) (suc t) = stops k (suc t) in
-      stops-by (suc k) t v (λ g o.
-      let z : t + suc (suc k) ≡ suc t + suc k = omega arith in
-      let (j, a, b, e) = rest (ap (λ o. o .moving) g ∙ v) (subst (λ u. due u i ≡ true) z q) in
-      let u : suc t + j ≡ t + suc j = omega arith in
-      (suc j, omega arith, subst (λ n. h n i .moving ≡ false) u b, subst (λ n. h n i .route ≡ h t i .route) u (e ∙ ap (λ o. o .route) g)))
-
-  -- a step leaves it one square less
-  shorter : (t : ℕ) → c t ≡ i → is-empty (h t i .route) ≡ false → suc (length (h (suc t) i .route)) ≡ length (h t i .route)
-  unfolding arrived
-  shorter t g u =
-      let len = ap length (steps (h t i) u .left) in
-      let l′ : c t < f .shuttles = subst (λ x. x < f .shuttles) (sym g) l in
-      ⊎-elim
-      (λ (q : h (suc t) (c t) ≡ stepped (h t (c t))).
-      let q′ = ap (λ o. length (o .route)) (subst (λ x. h (suc t) x ≡ stepped (h t x)) g q) in omega arith)
-      (λ (q : h (suc t) (c t) ≡ arrived (stepped (h t (c t)))).
-      let q′ = ap (λ o. length (o .route)) (subst (λ x. h (suc t) x ≡ arrived (stepped (h t x))) g q) in omega arith)
-      (r .stepping t l′)
-
+module _ (f : Field) (d : ℕ) (h : ℕ → Fleet) (w : ℕ → ℕ → ℕ) (c : ℕ → ℕ) (due : ℕ → ℕ → Bool)
+    (r : Choices f d h w c due) (i : ℕ) (l : i < f .shuttles) where
   -- where it gets each step within p ticks, it is home within so many ticks for each square, and d more
   module _ (p : ℕ) (gets : (t : ℕ) → waits (h t i) ≡ true → (k : ℕ) × (k < p) × (h (t + k) i ≡ h t i) × (c (t + k) ≡ i)) where
     abbrev Done : ℕ → ℕ → Type 0
@@ -69,7 +32,7 @@ module _ (f : Field) (part : ℕ → ℕ) (two : Two-bays f part) (d : ℕ) (h :
     from-any n t q more = ⊎-elim
         (λ (v : h t i .moving ≡ true).
         let (k, x, y) = r .soon t i l v in
-        let (j, a, b, e) = stops k t v y in
+        let (j, a, b, e) = stops f d h w c due r i l k t v y in
         let len : length (h (t + j) i .route) ≡ length (h t i .route) = ap length e in
         later (n * (p + d)) (n * (p + d) + d) j t (omega arith) (stood (t + j) (omega arith) b))
         (λ (v : h t i .moving ≡ false). let (k, x, y, z) = stood t q v in (k, omega arith, y, z))
@@ -88,7 +51,7 @@ module _ (f : Field) (part : ℕ → ℕ) (two : Two-bays f part) (d : ℕ) (h :
         let rest : (t : ℕ) → length (h t i .route) ≤ n → Done (n * (p + d) + d) t = done n in
         from-any (suc n) t q (λ t q v u.
         let (k, x, y, z) = gets t (waits-from (h t i) v u) in
-        let len = shorter (t + k) z (ap (λ o. is-empty (o .route)) y ∙ u) in
+        let len = shorter f d h w c due r i l (t + k) z (ap (λ o. is-empty (o .route)) y ∙ u) in
         let len′ : length (h (t + k) i .route) ≡ length (h t i .route) = ap (λ o. length (o .route)) y in
         let e : suc (t + k) ≡ t + suc k = omega arith in
         later (n * (p + d) + d) (suc n * (p + d)) (suc k) t (omega arith) (subst (Done (n * (p + d) + d)) e (rest (suc (t + k)) (omega arith))))

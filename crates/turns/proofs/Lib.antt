@@ -4,6 +4,7 @@ pub mod Bounds
 pub mod Home
 pub mod Starving
 pub mod Fair
+pub mod Finding
 pub mod Parts
 pub mod Choices
 pub mod Patience

@@ -22,11 +22,12 @@ use Rattle.promise.proofs.Events.{takes-tells, grants-tells, Good, good-after}
 use Rattle.promise.proofs.GoingOn.{done}
 use Rattle.turns.specs.Tick.{is-due, all-come, waits, one-more, counted-to, counted, chosen, Turn, granted-to, choose, tick}
 use Rattle.turns.specs.Night.{give, give-to, all-given, next, night}
-use Rattle.turns.specs.Parts.{Two-bays, Night, patience, Nobody-starves, Each-comes-home}
+use Rattle.turns.specs.Parts.{At-most-two}
+use Rattle.turns.specs.Waiting.{Any-night, most-ticks, Nobody-starves, Each-comes-home}
 use Rattle.turns.proofs.Ticks.{due-come, counted-length, counts-all, Best, choice, not-done}
 use Rattle.turns.proofs.Bounds.{due-soon}
 use Rattle.turns.proofs.Home.{others-stay, all-come-moves, Reached, come-reached}
-use Rattle.turns.proofs.Parts.{Roams, roams}
+use Rattle.turns.proofs.Parts.{Placed-own, placed-own}
 use Rattle.turns.proofs.Choices.{Choices, waits-tells}
 use Rattle.turns.proofs.Patience.{gets-step}
 use Rattle.turns.proofs.Comings.{done as comes-done}
@@ -126,7 +127,7 @@ same-come f g marks i l m = ⊎-elim
     (λ (t : ((is-due marks i && g i .moving) ≡ false) × (all-come f g marks i ≡ g i)). t .1)
     (due-come f g marks i l)
 
-module _ (f : Field) (s : Turn) (orders : ℕ → ℕ → List ℕ) (marks : ℕ → List ℕ) (d : ℕ) (nn : Night f s orders marks d) where
+module _ (f : Field) (s : Turn) (orders : ℕ → ℕ → List ℕ) (marks : ℕ → List ℕ) (d : ℕ) (two : At-most-two f) (nn : Any-night f s orders marks d) where
   abbrev now : ℕ → Turn
   now t = night f s orders marks t
 
@@ -154,7 +155,7 @@ module _ (f : Field) (s : Turn) (orders : ℕ → ℕ → List ℕ) (marks : ℕ
 
   long : (t : ℕ) → f .shuttles ≤ length (now t .waits)
   unfolding night counted
-  long zero = nn .counted
+  long zero = nn .enough
   long (suc t) =
       let e = ap length (is-waits t) ∙ length-set (waits-at t) (whose t) 0 ∙ counted-length (fleet-at t) (now t .waits) (f .shuttles) in
       let q = long t in omega arith
@@ -305,12 +306,12 @@ module _ (f : Field) (s : Turn) (orders : ℕ → ℕ → List ℕ) (marks : ℕ
       after-now b (zero, x, y) = let e : t + 0 ≡ t = omega arith in absurd (both-ways _ b (subst (λ u. is-due (marks u) i ≡ true) e y))
       after-now b (suc k, x, y) = (k, omega arith, y)
 
-  the-choices : Choices f (nn .part) (nn .two-bays) d fleet-at (λ t i. getD (waits-at t) i 0) whose (λ t i. is-due (marks t) i)
+  the-choices : Choices f d fleet-at (λ t i. getD (waits-at t) i 0) whose (λ t i. is-due (marks t) i)
   unfolding Chosen one-more
   the-choices = record {
     good = λ t. let (rs, e) = reached t in subst (Good f) (sym e) (good-after f (nn .field-sound) rs);
-    roams = λ t i l. let (rs, e) = reached t in subst (λ x. Roams f (nn .part) (nn .two-bays) i (x i)) (sym e)
-        (roams f (nn .part) (nn .two-bays) (nn .field-sound) rs i l);
+    own = λ t i l. let (rs, e) = reached t in subst (λ x. Placed-own f i (x i)) (sym e)
+        (placed-own f (nn .field-sound) rs i l);
     longest = λ t i l g. ⊎-elim
         (λ (b : Best f (fleet-at t) (waits-at t) (f .shuttles) (whose t)). (b .below, let q = b .longest i l g in omega arith))
         (λ (b : (whose t ≡ f .shuttles) × ((i : ℕ) → i < f .shuttles → grants f (fleet-at t) i ≡ false)). absurd (both-ways _ (b .1 i l) g))
@@ -334,16 +335,16 @@ module _ (f : Field) (s : Turn) (orders : ℕ → ℕ → List ℕ) (marks : ℕ
       same-come f (all-given f (now t .fleet) (orders t)) (marks t) i l (ap (λ x. x .moving) e ∙ m) ∙ e
 
   served : (t i : ℕ) → i < f .shuttles → waits (fleet-at t i) ≡ true →
-      (k : ℕ) × (k < patience f d) × (fleet-at (t + k) i ≡ fleet-at t i) × (whose (t + k) ≡ i)
-  unfolding patience
-  served = gets-step f (nn .field-sound) (nn .part) (nn .two-bays) d fleet-at (λ t i. getD (waits-at t) i 0) whose (λ t i. is-due (marks t) i) the-choices
+      (k : ℕ) × (k < most-ticks f d) × (fleet-at (t + k) i ≡ fleet-at t i) × (whose (t + k) ≡ i)
+  unfolding most-ticks
+  served = gets-step f (nn .field-sound) two d fleet-at (λ t i. getD (waits-at t) i 0) whose (λ t i. is-due (marks t) i) the-choices
 
-  home : (t i : ℕ) → i < f .shuttles → (k : ℕ) × (k ≤ 257 * (patience f d + d)) × (now (t + k) .fleet i ≡ at-home f i)
-  unfolding patience at-home
+  home : (t i : ℕ) → i < f .shuttles → (k : ℕ) × (k ≤ 257 * (most-ticks f d + d)) × (now (t + k) .fleet i ≡ at-home f i)
+  unfolding most-ticks at-home
   home t i l =
-      let short = the-choices .roams t i l .short in
-      let (k, x, y, z) = comes-done f (nn .part) (nn .two-bays) d fleet-at (λ t i. getD (waits-at t) i 0) whose (λ t i. is-due (marks t) i)
-          the-choices i l (patience f d) (λ t v. served t i l v) 256 t short in
+      let short = the-choices .own t i l .short in
+      let (k, x, y, z) = comes-done f d fleet-at (λ t i. getD (waits-at t) i 0) whose (λ t i. is-due (marks t) i)
+          the-choices i l (most-ticks f d) (λ t v. served t i l v) 256 t short in
       let e = kept (t + k) i (not-chosen (t + k) i l (inr z)) in
       let p = the-choices .good (t + k) .each i l in
       let at = idle-home p z in
@@ -356,9 +357,9 @@ module _ (f : Field) (s : Turn) (orders : ℕ → ℕ → List ℕ) (marks : ℕ
       )
 
 pub nobody-starves : Nobody-starves
-nobody-starves f s orders marks d nn t i l v =
-    let e = same-there f s orders marks d nn t i l v in
-    let (k, x, y, z) = served f s orders marks d nn t i l (ap waits e ∙ v) in (k, x, z)
+nobody-starves f s orders marks d two nn t i l v =
+    let e = same-there f s orders marks d two nn t i l v in
+    let (k, x, y, z) = served f s orders marks d two nn t i l (ap waits e ∙ v) in (k, x, z)
 
 pub each-comes-home : Each-comes-home
-each-comes-home f s orders marks d nn t i l = home f s orders marks d nn t i l
+each-comes-home f s orders marks d two nn t i l = home f s orders marks d two nn t i l

@@ -28,11 +28,12 @@ use Rattle.promise.specs.Rule.{shuttles}
 use Rattle.promise.proofs.Shuttles.{blocks-is, holds-is}
 use Rattle.promise.proofs.Places.{May-step, route-tells, bays-differ, route-avoids, steps, idle-home}
 use Rattle.promise.proofs.Events.{takes-tells, grants-tells, grants-from, arrives-tells, Good, good-after}
-use Rattle.turns.specs.Parts.{open-square, touches, Two-bays}
+use Rattle.turns.specs.Parts.{open-square, linked, link, at-bay, part-of, touches}
+use Rattle.turns.proofs.Finding.{parts-are-found, touches-from}
 
--- squares where shuttle i can be: its bay, and the open squares of the parts that its bay touches
-abbrev pub Mine : Field → (ℕ → ℕ) → ℕ → ℕ → Type 0
-Mine f part i c = (c ≡ f .bay i) ⊎ ((open-square f c ≡ true) × (touches f part i (part c) ≡ true))
+-- the squares where shuttle i can be: its bay, and the open squares of the parts that its bay touches
+abbrev pub Own : Field → ℕ → ℕ → Type 0
+Own f i c = (c ≡ f .bay i) ⊎ ((open-square f c ≡ true) × (touches f i (part-of f c) ≡ true))
 
 open-is : (f : Field) (c : ℕ) → open-square f c ≡ true → (free-square f c ≡ true) × (is-bay f c ≡ false)
 unfolding open-square
@@ -54,37 +55,40 @@ next-is f i c d ds h =
     let s = route-tells f i c d ds h in
     ⊎-elim (λ o. inl (and-from _ _ (s .free) o)) (λ o. let (a, b) = and-parts _ _ o in inr (eqb-true _ _ a, b)) (or-cases _ _ (s .bays))
 
-module _ (f : Field) (part : ℕ → ℕ) (two : Two-bays f part) where
-  pub step-mine : (i c d : ℕ) (ds : List ℕ) → route-ok f i c (d ∷ ds) ≡ true → Mine f part i c → Mine f part i d
-  unfolding touches free-square
-  step-mine i c d ds h m =
+module _ (f : Field) where
+  -- open squares beside each other are in one part
+  one-part-of : (c d : ℕ) → open-square f c ≡ true → open-square f d ≡ true → beside f c d ≡ true → part-of f c ≡ part-of f d
+  unfolding linked
+  one-part-of c d a b e = parts-are-found f c d .1 (link c d (and-from _ _ a (and-from _ _ b e)))
+
+  pub step-own : (i c d : ℕ) (ds : List ℕ) → route-ok f i c (d ∷ ds) ≡ true → Own f i c → Own f i d
+  unfolding at-bay
+  step-own i c d ds h m =
       let s = route-tells f i c d ds h in
       ⊎-elim
       (λ (o : open-square f d ≡ true). inr (o, ⊎-elim
-      (λ (e : c ≡ f .bay i). any-to-from (λ x. open-square f x && (beside f (f .bay i) x && eqb (part x) (part d))) (f .across * f .down) d
-      (ltb-true _ _ (and-parts _ _ (s .free) .0))
-      (and-from _ _ o (and-from _ _ (subst (λ x. beside f x d ≡ true) e (s .next-to)) (eq-eqb _ _ refl))))
-      (λ (q : (open-square f c ≡ true) × (touches f part i (part c) ≡ true)).
-      subst (λ p. touches f part i p ≡ true) (two .joined c d (q .0) o (s .next-to)) (q .1))
+      (λ (e : c ≡ f .bay i). touches-from f i d (part-of f d) (and-from _ _ o (subst (λ x. beside f x d ≡ true) e (s .next-to))) refl)
+      (λ (q : (open-square f c ≡ true) × (touches f i (part-of f c) ≡ true)).
+      subst (λ p. touches f i p ≡ true) (one-part-of c d (q .0) o (s .next-to)) (q .1))
       m))
       (λ (o : (d ≡ f .bay i) × (is-empty ds ≡ true)). inl (o .0))
       (next-is f i c d ds h)
 
   -- all open squares of a route from an open square are in its part
   pub one-part : (i c : ℕ) (r : List ℕ) → open-square f c ≡ true → route-ok f i c r ≡ true → (x : ℕ) → among x r ≡ true →
-      (x ≡ f .bay i) ⊎ ((open-square f x ≡ true) × (part x ≡ part c))
+      (x ≡ f .bay i) ⊎ ((open-square f x ≡ true) × (part-of f x ≡ part-of f c))
   unfolding among is-empty
   one-part i c [] o h x a = absurd (both-ways false refl a)
   one-part i c (d ∷ ds) o h x a =
       let s = route-tells f i c d ds h in
-      let rest : open-square f d ≡ true → among x ds ≡ true → (x ≡ f .bay i) ⊎ ((open-square f x ≡ true) × (part x ≡ part d)) = λ o′ a′.
+      let rest : open-square f d ≡ true → among x ds ≡ true → (x ≡ f .bay i) ⊎ ((open-square f x ≡ true) × (part-of f x ≡ part-of f d)) = λ o′ a′.
           one-part i d ds o′ (s .after) x a′ in
       ⊎-elim
       (λ (o′ : open-square f d ≡ true).
-      let e : part d ≡ part c = sym (two .joined c d o o′ (s .next-to)) in
+      let e : part-of f d ≡ part-of f c = sym (one-part-of c d o o′ (s .next-to)) in
       ⊎-elim
-      (λ q. let z = eqb-true x d q in inr (subst (λ y. open-square f y ≡ true) (sym z) o′, ap part z ∙ e))
-      (λ q. ⊎-elim inl (λ (b : (open-square f x ≡ true) × (part x ≡ part d)). inr (b .0, b .1 ∙ e)) (rest o′ q))
+      (λ q. let z = eqb-true x d q in inr (subst (λ y. open-square f y ≡ true) (sym z) o′, ap (part-of f) z ∙ e))
+      (λ q. ⊎-elim inl (λ (b : (open-square f x ≡ true) × (part-of f x ≡ part-of f d)). inr (b .0, b .1 ∙ e)) (rest o′ q))
       (or-cases _ _ a))
       (λ (b : (d ≡ f .bay i) × (is-empty ds ≡ true)). ⊎-elim (λ q. inl (eqb-true x d q ∙ b .0)) (λ q. absurd (none ds (b .1) q)) (or-cases _ _ a))
       (next-is f i c d ds h)
@@ -95,68 +99,68 @@ module _ (f : Field) (part : ℕ → ℕ) (two : Two-bays f part) where
 
   -- so are those of a route whose first square is open
   pub first-part : (i c d : ℕ) (ds : List ℕ) → open-square f d ≡ true → route-ok f i c (d ∷ ds) ≡ true → (x : ℕ) → among x (d ∷ ds) ≡ true →
-      (x ≡ f .bay i) ⊎ ((open-square f x ≡ true) × (part x ≡ part d))
+      (x ≡ f .bay i) ⊎ ((open-square f x ≡ true) × (part-of f x ≡ part-of f d))
   unfolding among
   first-part i c d ds o h x a = ⊎-elim
-      (λ q. let z = eqb-true x d q in inr (subst (λ y. open-square f y ≡ true) (sym z) o, ap part z))
+      (λ q. let z = eqb-true x d q in inr (subst (λ y. open-square f y ≡ true) (sym z) o, ap (part-of f) z))
       (λ q. one-part i d ds o (route-tells f i c d ds h .after) x q) (or-cases _ _ a)
 
   -- where each shuttle is, and how much it has left at most
-  pub record Roams (i : ℕ) (s : Shuttle) : Type 0 where
-    pub here : Mine f part i (s .at)
-    pub from : Mine f part i (s .behind)
+  pub record Placed-own (i : ℕ) (s : Shuttle) : Type 0 where
+    pub here : Own f i (s .at)
+    pub from : Own f i (s .behind)
     pub short : length (s .route) ≤ 256
 
-  pub roams-home : (i : ℕ) → Roams i (at-home f i)
+  pub placed-own-home : (i : ℕ) → Placed-own i (at-home f i)
   unfolding at-home
-  roams-home i = record { here = inl refl; from = inl refl; short = omega arith }
+  placed-own-home i = record { here = inl refl; from = inl refl; short = omega arith }
 
-  roams-arrived : (i : ℕ) (s : Shuttle) → Roams i s → Roams i (arrived s)
+  placed-own-arrived : (i : ℕ) (s : Shuttle) → Placed-own i s → Placed-own i (arrived s)
   unfolding arrived
-  roams-arrived i s r = record { here = r .here; from = r .here; short = r .short }
+  placed-own-arrived i s r = record { here = r .here; from = r .here; short = r .short }
 
-  roams-ordered : (i : ℕ) (s : Shuttle) (r : List ℕ) → length r ≤ 256 → Roams i s → Roams i (ordered s r)
+  placed-own-ordered : (i : ℕ) (s : Shuttle) (r : List ℕ) → length r ≤ 256 → Placed-own i s → Placed-own i (ordered s r)
   unfolding ordered
-  roams-ordered i s r l q = record { here = q .here; from = q .here; short = l }
+  placed-own-ordered i s r l q = record { here = q .here; from = q .here; short = l }
 
-  roams-stepped : (i : ℕ) (s : Shuttle) → Placed f i s → is-empty (s .route) ≡ false → Roams i s → Roams i (stepped s)
-  roams-stepped i s p e q =
+  placed-own-stepped : (i : ℕ) (s : Shuttle) → Placed f i s → is-empty (s .route) ≡ false → Placed-own i s → Placed-own i (stepped s)
+  placed-own-stepped i s p e q =
       let h = steps s e in
       let len = ap length (h .left) in
       let o = q .short in
       record {
-        here = step-mine i (s .at) (stepped s .at) (stepped s .route) (subst (λ r. route-ok f i (s .at) r ≡ true) (h .left) (p .on-route)) (q .here);
-        from = subst (Mine f part i) (sym (h .from)) (q .here);
+        here = step-own i (s .at) (stepped s .at) (stepped s .route) (subst (λ r. route-ok f i (s .at) r ≡ true) (h .left) (p .on-route)) (q .here);
+        from = subst (Own f i) (sym (h .from)) (q .here);
         short = omega arith;
       }
 
-  pub roams : sound f ≡ true → (es : List Event) (i : ℕ) → i < f .shuttles → Roams i (after f es i)
+  pub placed-own : sound f ≡ true → (es : List Event) (i : ℕ) → i < f .shuttles → Placed-own i (after f es i)
   unfolding after happens does who becomes put with-agent
-  roams ok [] i l = roams-home i
-  roams ok (order j r ∷ es) i l =
+  placed-own ok [] i l = placed-own-home i
+  placed-own ok (order j r ∷ es) i l =
       let g = after f es in
-      let before : (i : ℕ) → i < f .shuttles → Roams i (g i) = roams ok es in
-      cond-both (takes f g j r) (put g j (ordered (g j) r)) g (λ h. Roams i (h i))
-      (λ e. let t = takes-tells f g j r e in put-each (λ a s. a < f .shuttles → Roams a s) g j (ordered (g j) r)
-      (λ m. roams-ordered j (g j) r (t .short) (before j m)) (λ a _. before a) i l) (λ _. before i l)
-  roams ok (step j ∷ es) i l =
+      let before : (i : ℕ) → i < f .shuttles → Placed-own i (g i) = placed-own ok es in
+      cond-both (takes f g j r) (put g j (ordered (g j) r)) g (λ h. Placed-own i (h i))
+      (λ e. let t = takes-tells f g j r e in put-each (λ a s. a < f .shuttles → Placed-own a s) g j (ordered (g j) r)
+      (λ m. placed-own-ordered j (g j) r (t .short) (before j m)) (λ a _. before a) i l) (λ _. before i l)
+  placed-own ok (step j ∷ es) i l =
       let g = after f es in
-      let before : (i : ℕ) → i < f .shuttles → Roams i (g i) = roams ok es in
-      cond-both (grants f g j) (put g j (stepped (g j))) g (λ h. Roams i (h i))
-      (λ e. let t = grants-tells f g j e in put-each (λ a s. a < f .shuttles → Roams a s) g j (stepped (g j))
-      (λ m. roams-stepped j (g j) (good-after f ok es .each j m) (t .something-left) (before j m)) (λ a _. before a) i l) (λ _. before i l)
-  roams ok (arrive j ∷ es) i l =
+      let before : (i : ℕ) → i < f .shuttles → Placed-own i (g i) = placed-own ok es in
+      cond-both (grants f g j) (put g j (stepped (g j))) g (λ h. Placed-own i (h i))
+      (λ e. let t = grants-tells f g j e in put-each (λ a s. a < f .shuttles → Placed-own a s) g j (stepped (g j))
+      (λ m. placed-own-stepped j (g j) (good-after f ok es .each j m) (t .something-left) (before j m)) (λ a _. before a) i l) (λ _. before i l)
+  placed-own ok (arrive j ∷ es) i l =
       let g = after f es in
-      let before : (i : ℕ) → i < f .shuttles → Roams i (g i) = roams ok es in
-      cond-both (arrives f g j) (put g j (arrived (g j))) g (λ h. Roams i (h i))
-      (λ e. put-each (λ a s. a < f .shuttles → Roams a s) g j (arrived (g j))
-      (λ m. roams-arrived j (g j) (before j m)) (λ a _. before a) i l) (λ _. before i l)
+      let before : (i : ℕ) → i < f .shuttles → Placed-own i (g i) = placed-own ok es in
+      cond-both (arrives f g j) (put g j (arrived (g j))) g (λ h. Placed-own i (h i))
+      (λ e. put-each (λ a s. a < f .shuttles → Placed-own a s) g j (arrived (g j))
+      (λ m. placed-own-arrived j (g j) (before j m)) (λ a _. before a) i l) (λ _. before i l)
 
   -- what it holds is its own
-  pub held-mine : (i : ℕ) (s : Shuttle) → Roams i s → (c : ℕ) → holds s c ≡ true → Mine f part i c
+  pub held-own : (i : ℕ) (s : Shuttle) → Placed-own i s → (c : ℕ) → holds s c ≡ true → Own f i c
   unfolding holds
-  held-mine i s r c h = ⊎-elim (λ e. subst (Mine f part i) (eqb-true _ _ e) (r .here))
-      (λ e. subst (Mine f part i) (eqb-true _ _ (and-parts _ _ e .1)) (r .from)) (or-cases _ _ h)
+  held-own i s r c h = ⊎-elim (λ e. subst (Own f i) (eqb-true _ _ e) (r .here))
+      (λ e. subst (Own f i) (eqb-true _ _ (and-parts _ _ e .1)) (r .from)) (or-cases _ _ h)
 
 -- one that stands holds its square alone
 pub stands-holds : (s : Shuttle) (c : ℕ) → s .moving ≡ false → holds s c ≡ true → s .at ≡ c

@@ -22,13 +22,14 @@ use Rattle.promise.proofs.Shuttles.{blocks-is}
 use Rattle.promise.proofs.Places.{bays-differ, route-avoids, steps, idle-home}
 use Rattle.promise.proofs.Events.{Good}
 use Rattle.turns.specs.Tick.{waits, one-more}
-use Rattle.turns.specs.Parts.{open-square, touches, Two-bays}
+use Rattle.turns.specs.Parts.{open-square, At-most-two, part-of, touches}
+use Rattle.turns.proofs.Finding.{two-touch}
 use Rattle.turns.proofs.Fair.{turn-comes}
-use Rattle.turns.proofs.Choices.{Choices, waits-from, waits-tells, waits-not, holds-at, more-least}
-use Rattle.turns.proofs.Parts.{Mine, step-mine, next-is, not-bay, first-part, one-part, held-mine, stands-holds, Clear, clear-granted, no-pair}
+use Rattle.turns.proofs.Choices.{Choices, waits-from, waits-tells, waits-not, holds-at, more-least, stops, shorter}
+use Rattle.turns.proofs.Parts.{Own, step-own, next-is, not-bay, first-part, one-part, held-own, stands-holds, Clear, clear-granted, no-pair}
 
-module _ (f : Field) (ok : sound f ≡ true) (part : ℕ → ℕ) (two : Two-bays f part) (d : ℕ) (h : ℕ → Fleet) (w : ℕ → ℕ → ℕ) (c : ℕ → ℕ)
-    (due : ℕ → ℕ → Bool) (r : Choices f part two d h w c due) where
+module _ (f : Field) (ok : sound f ≡ true) (two : At-most-two f) (d : ℕ) (h : ℕ → Fleet) (w : ℕ → ℕ → ℕ) (c : ℕ → ℕ)
+    (due : ℕ → ℕ → Bool) (r : Choices f d h w c due) where
   grow : (t i : ℕ) → i < f .shuttles → w (suc t) i ≤ suc (w t i)
   grow t i l =
       let e = r .counting t i l in
@@ -53,14 +54,14 @@ module _ (f : Field) (ok : sound f ≡ true) (part : ℕ → ℕ) (two : Two-bay
   own-bay : (t i j : ℕ) → i < f .shuttles → j < f .shuttles → (i ≡ j → ⊥) → holds (h t j) (f .bay i) ≡ true → ⊥
   own-bay t i j l m ne v = ⊎-elim
       (λ (e : f .bay i ≡ f .bay j). ne (bays-differ f ok i j l m e))
-      (λ (o : (open-square f (f .bay i) ≡ true) × (touches f part j (part (f .bay i)) ≡ true)). not-bay f i (f .bay i) l (o .0) refl)
-      (held-mine f part two j (h t j) (r .roams t j m) (f .bay i) v)
+      (λ (o : (open-square f (f .bay i) ≡ true) × (touches f j (part-of f (f .bay i)) ≡ true)). not-bay f i (f .bay i) l (o .0) refl)
+      (held-own f j (h t j) (r .own t j m) (f .bay i) v)
 
   -- who holds an open square touches its part
-  touching : (t j x : ℕ) → j < f .shuttles → open-square f x ≡ true → holds (h t j) x ≡ true → touches f part j (part x) ≡ true
+  touching : (t j x : ℕ) → j < f .shuttles → open-square f x ≡ true → holds (h t j) x ≡ true → touches f j (part-of f x) ≡ true
   touching t j x m o v = ⊎-elim (λ (e : x ≡ f .bay j). absurd (not-bay f j x m o e))
-      (λ (q : (open-square f x ≡ true) × (touches f part j (part x) ≡ true)). q .1)
-      (held-mine f part two j (h t j) (r .roams t j m) x v)
+      (λ (q : (open-square f x ≡ true) × (touches f j (part-of f x) ≡ true)). q .1)
+      (held-own f j (h t j) (r .own t j m) x v)
 
   -- shuttle a, which waits as it is in s
   module _ (a : ℕ) (l : a < f .shuttles) (s : Shuttle) (stands : s .moving ≡ false) (left : is-empty (s .route) ≡ false) where
@@ -81,6 +82,17 @@ module _ (f : Field) (ok : sound f ≡ true) (part : ℕ → ℕ) (two : Two-bay
     waits-a : (t : ℕ) → h t a ≡ s → waits (h t a) ≡ true
     waits-a t e = waits-from (h t a) (ap (λ x. x .moving) e ∙ stands) (ap (λ x. is-empty (x .route)) e ∙ left)
 
+    -- after any number of ticks it was served or still waits
+    until : (j t : ℕ) → h t a ≡ s → Served j t ⊎ (h (t + j) a ≡ s)
+    until zero t e = let z : t ≡ t + 0 = omega arith in inr (subst (λ u. h u a ≡ s) z e)
+    until (suc j) t e =
+        let rest : h (suc t) a ≡ s → Served j (suc t) ⊎ (h (suc t + j) a ≡ s) = until j (suc t) in
+        let y : suc t ≡ t + 1 = omega arith in
+        let z : suc t + j ≡ t + suc j = omega arith in
+        ⊎-elim (λ q. inl (at-once (suc j) t (omega arith) e q))
+        (λ ne. ⊎-elim (λ q. inl (later j (suc j) 1 t (omega arith) (subst (Served j) y q))) (λ q. inr (subst (λ u. h u a ≡ s) z q)) (rest (stays t e ne)))
+        (cases-eq (c t) a)
+
     clear-longest : (t : ℕ) → h t a ≡ s → Clear f (h t) a → (c t < f .shuttles) × (w t a ≤ w t (c t))
     clear-longest t e q = r .longest t a l (clear-granted f (h t) (r .good t) a l (ap (λ x. x .moving) e ∙ stands) (ap (λ x. is-empty (x .route)) e ∙ left) q)
 
@@ -93,17 +105,17 @@ module _ (f : Field) (ok : sound f ≡ true) (part : ℕ → ℕ) (two : Two-bay
         (k, x, y, ⊎-elim (λ v. v) (λ (v : ⊥). absurd v) z)
 
     -- the squares that a has left are its bay or in one part p, which another, b, touches too, and nobody else
-    module _ (p : ℕ) (squares : (x : ℕ) → among x (s .route) ≡ true → (x ≡ f .bay a) ⊎ ((open-square f x ≡ true) × (part x ≡ p)))
+    module _ (p : ℕ) (squares : (x : ℕ) → among x (s .route) ≡ true → (x ≡ f .bay a) ⊎ ((open-square f x ≡ true) × (part-of f x ≡ p)))
         (b : ℕ) (m : b < f .shuttles) (ne : a ≡ b → ⊥)
-        (only : (j : ℕ) → j < f .shuttles → (a ≡ j → ⊥) → touches f part j p ≡ true → j ≡ b) where
+        (only : (j : ℕ) → j < f .shuttles → (a ≡ j → ⊥) → touches f j p ≡ true → j ≡ b) where
       -- if b stands beside its way, a is clear
       a-clear : (t : ℕ) → h t a ≡ s → h t b .moving ≡ false → among (h t b .at) (s .route) ≡ false → Clear f (h t) a
       a-clear t e v u j mj nj x i = false-from _ (λ y.
           let i′ = subst (λ q. among x (q .route) ≡ true) e i in
           ⊎-elim
           (λ (z : x ≡ f .bay a). own-bay t a j l mj nj (subst (λ q. holds (h t j) q ≡ true) z y))
-          (λ (z : (open-square f x ≡ true) × (part x ≡ p)).
-          let same : j ≡ b = only j mj nj (subst (λ q. touches f part j q ≡ true) (z .1) (touching t j x mj (z .0) y)) in
+          (λ (z : (open-square f x ≡ true) × (part-of f x ≡ p)).
+          let same : j ≡ b = only j mj nj (subst (λ q. touches f j q ≡ true) (z .1) (touching t j x mj (z .0) y)) in
           let here : h t b .at ≡ x = stands-holds (h t b) x v (subst (λ q. holds (h t q) x ≡ true) same y) in
           both-ways _ u (subst (λ q. among q (s .route) ≡ true) (sym here) i′))
           (squares x i′))
@@ -112,8 +124,8 @@ module _ (f : Field) (ok : sound f ≡ true) (part : ℕ → ℕ) (two : Two-bay
       b-clear : (t : ℕ) → h t a ≡ s → h t b .moving ≡ false → among (h t b .at) (s .route) ≡ true → Clear f (h t) b
       b-clear t e v u j mj nj x i = false-from _ (λ y. ⊎-elim
           (λ (z : x ≡ f .bay b). own-bay t b j m mj nj (subst (λ q. holds (h t j) q ≡ true) z y))
-          (λ (z : (open-square f x ≡ true) × (part x ≡ part (h t b .at))).
-          let t′ : touches f part j p ≡ true = subst (λ q. touches f part j q ≡ true) (z .1 ∙ place .1) (touching t j x mj (z .0) y) in
+          (λ (z : (open-square f x ≡ true) × (part-of f x ≡ part-of f (h t b .at))).
+          let t′ : touches f j p ≡ true = subst (λ q. touches f j q ≡ true) (z .1 ∙ place .1) (touching t j x mj (z .0) y) in
           ⊎-elim
           (λ (q : a ≡ j).
           let here : h t a .at ≡ x = stands-holds (h t a) x (ap (λ k. k .moving) e ∙ stands) (subst (λ k. holds (h t k) x ≡ true) (sym q) y) in
@@ -121,9 +133,9 @@ module _ (f : Field) (ok : sound f ≡ true) (part : ℕ → ℕ) (two : Two-bay
           (blocks-is (h t) b a ∙ subst (λ k. among k (h t b .route) ≡ true) (sym here) i))
           (λ (q : a ≡ j → ⊥). nj (sym (only j mj q t′)))
           (cases-eq a j))
-          (one-part f part two b (h t b .at) (h t b .route) (place .0) (r .good t .each b m .on-route) x i))
+          (one-part f b (h t b .at) (h t b .route) (place .0) (r .good t .each b m .on-route) x i))
         where
-          place : (open-square f (h t b .at) ≡ true) × (part (h t b .at) ≡ p)
+          place : (open-square f (h t b .at) ≡ true) × (part-of f (h t b .at) ≡ p)
           place = ⊎-elim
               (λ (z : h t b .at ≡ f .bay a). absurd (own-bay t a b l m ne (subst (λ q. holds (h t b) q ≡ true) z (holds-at (h t b)))))
               (λ z. z) (squares (h t b .at) u)
@@ -198,42 +210,6 @@ module _ (f : Field) (ok : sound f ≡ true) (part : ℕ → ℕ) (two : Two-bay
               let g′ = longer t a l na (waits-a (suc t) e′) in
               (e′, still .1, still .0 ∙ j .2, omega arith)
 
-      -- b comes to stand within so many ticks, with as much left, or a was served
-      abbrev Stood : ℕ → ℕ → Type 0
-      Stood k t = (j : ℕ) × (j ≤ k) × (h (t + j) a ≡ s) × (h (t + j) b .moving ≡ false) × (h (t + j) b .route ≡ h t b .route)
-
-      goes-on : (k t : ℕ) → h t a ≡ s → h t b .moving ≡ true →
-          (h (suc t) a ≡ s → h (suc t) b ≡ h t b → due (suc t) b ≡ false → Served (suc k) t ⊎ Stood (suc k) t) →
-          Served (suc k) t ⊎ Stood (suc k) t
-      unfolding arrived
-      goes-on k t e v more = ⊎-elim
-          (λ z. inl (at-once (suc k) t (omega arith) e z))
-          (λ na. let e′ = stays t e na in ⊎-elim
-          (λ (g : (h (suc t) b ≡ h t b) × (due (suc t) b ≡ false)). more e′ (g .0) (g .1))
-          (λ (g : h (suc t) b ≡ arrived (h t b)).
-          let z : suc t ≡ t + 1 = omega arith in
-          inr (1, omega arith, subst (λ u. h u a ≡ s) z e′, subst (λ u. h u b .moving ≡ false) z (ap (λ o. o .moving) g),
-          subst (λ u. h u b .route ≡ h t b .route) z (ap (λ o. o .route) g)))
-          (r .driving t b m v))
-          (cases-eq (c t) a)
-
-      comes : (k t : ℕ) → h t a ≡ s → h t b .moving ≡ true → due (t + suc k) b ≡ true → Served (suc k) t ⊎ Stood (suc k) t
-      comes zero t e v q = goes-on zero t e v (λ _ g o.
-          let z : t + 1 ≡ suc t = omega arith in absurd (both-ways _ o (subst (λ u. due u b ≡ true) z q)))
-      comes (suc k) t e v q =
-          let rest : h (suc t) a ≡ s → h (suc t) b .moving ≡ true → due (suc t + suc k) b ≡ true →
-              Served (suc k) (suc t) ⊎ Stood (suc k) (suc t) = comes k (suc t) in
-          goes-on (suc k) t e v (λ e′ g o.
-          let z : t + suc (suc k) ≡ suc t + suc k = omega arith in
-          let y : suc t ≡ t + 1 = omega arith in
-          ⊎-elim (λ x. inl (later (suc k) (suc (suc k)) 1 t (omega arith) (subst (Served (suc k)) y x)))
-          (λ (x : Stood (suc k) (suc t)).
-          let u : suc t + x .0 ≡ t + suc (x .0) = omega arith in
-          let le = x .1 in
-          inr (suc (x .0), omega arith, subst (λ n. h n a ≡ s) u (x .2), subst (λ n. h n b .moving ≡ false) u (x .3),
-          subst (λ n. h n b .route ≡ h t b .route) u (x .4 ∙ ap (λ o. o .route) g)))
-          (rest e′ (ap (λ o. o .moving) g ∙ v) (subst (λ u. due u b ≡ true) z q)))
-
       -- what b that stands with something left comes to, a comes to within n and d ticks more
       from-any : (n t : ℕ) → h t a ≡ s → length (h t b .route) ≤ n →
           ((t : ℕ) → h t a ≡ s → length (h t b .route) ≤ n → h t b .moving ≡ false → is-empty (h t b .route) ≡ false →
@@ -242,14 +218,12 @@ module _ (f : Field) (ok : sound f ≡ true) (part : ℕ → ℕ) (two : Two-bay
       from-any n t e q more = ⊎-elim
           (λ (v : h t b .moving ≡ true).
           let (k, x, y) = r .soon t b m v in
+          let (j, le, z, same) = stops f d h w c due r b m k t v y in
+          let len : length (h (t + j) b .route) ≡ length (h t b .route) = ap length same in
           ⊎-elim
-          (λ z. weaker (suc k) t (omega arith) z)
-          (λ (z : Stood (suc k) t).
-          let le = z .1 in
-          let len : length (h (t + z .0) b .route) ≡ length (h t b .route) = ap length (z .4) in
-          later (f .shuttles + n * (f .shuttles + d)) (suc n * (f .shuttles + d)) (z .0) t (omega arith)
-          (stood (t + z .0) (z .2) (omega arith) (z .3)))
-          (comes k t e v y))
+          (λ o. weaker j t (omega arith) o)
+          (λ o. later (f .shuttles + n * (f .shuttles + d)) (suc n * (f .shuttles + d)) j t (omega arith) (stood (t + j) o (omega arith) z))
+          (until j t e))
           (λ (v : h t b .moving ≡ false). weaker (f .shuttles + n * (f .shuttles + d)) t (omega arith) (stood t e q v))
           (cases-bool (h t b .moving))
         where
@@ -262,19 +236,6 @@ module _ (f : Field) (ok : sound f ≡ true) (part : ℕ → ℕ) (two : Two-bay
               (λ u. more t e q v u)
               (cases-bool (is-empty (h t b .route)))
 
-      -- a step leaves b one square less
-      shorter : (t : ℕ) → c t ≡ b → is-empty (h t b .route) ≡ false → suc (length (h (suc t) b .route)) ≡ length (h t b .route)
-      unfolding arrived
-      shorter t g u =
-          let len = ap length (steps (h t b) u .left) in
-          let l′ : c t < f .shuttles = subst (λ x. x < f .shuttles) (sym g) m in
-          ⊎-elim
-          (λ (q : h (suc t) (c t) ≡ stepped (h t (c t))).
-          let q′ = ap (λ o. length (o .route)) (subst (λ x. h (suc t) x ≡ stepped (h t x)) g q) in omega arith)
-          (λ (q : h (suc t) (c t) ≡ arrived (stepped (h t (c t)))).
-          let q′ = ap (λ o. length (o .route)) (subst (λ x. h (suc t) x ≡ arrived (stepped (h t x))) g q) in omega arith)
-          (r .stepping t l′)
-
       -- so a is served within so many ticks for each square that b has left, and once more
       served : (n t : ℕ) → h t a ≡ s → length (h t b .route) ≤ n → Served (suc n * (f .shuttles + d)) t
       unfolding Pair
@@ -286,7 +247,7 @@ module _ (f : Field) (ok : sound f ≡ true) (part : ℕ → ℕ) (two : Two-bay
           (λ (g : c (t + k) ≡ a). (k, omega arith, y .0, g))
           (λ (g : c (t + k) ≡ b).
           let e′ = stays (t + k) (y .0) (λ g′. ne (sym g′ ∙ g)) in
-          let len = shorter (t + k) g (ap (λ o. is-empty (o .route)) (y .1) ∙ u) in
+          let len = shorter f d h w c due r b m (t + k) g (ap (λ o. is-empty (o .route)) (y .1) ∙ u) in
           let len′ : length (h (t + k) b .route) ≡ length (h t b .route) = ap (λ o. length (o .route)) (y .1) in
           let i : suc (t + k) ≡ t + suc k = omega arith in
           later (suc n * (f .shuttles + d)) (f .shuttles + suc n * (f .shuttles + d)) (suc k) t (omega arith)
@@ -311,31 +272,31 @@ module _ (f : Field) (ok : sound f ≡ true) (part : ℕ → ℕ) (two : Two-bay
     -- its next square is open: either another touches its part or nobody does
     module _ (t : ℕ) (e₀ : h t a ≡ s) (x : ℕ) (xs : List ℕ) (e : s .route ≡ x ∷ xs) (o : open-square f x ≡ true)
         (on-route : route-ok f a (h t a .at) (x ∷ xs) ≡ true) where
-      squares : (y : ℕ) → among y (s .route) ≡ true → (y ≡ f .bay a) ⊎ ((open-square f y ≡ true) × (part y ≡ part x))
-      squares y i = first-part f part two a (h t a .at) x xs o on-route y (subst (λ q. among y q ≡ true) e i)
+      squares : (y : ℕ) → among y (s .route) ≡ true → (y ≡ f .bay a) ⊎ ((open-square f y ≡ true) × (part-of f y ≡ part-of f x))
+      squares y i = first-part f a (h t a .at) x xs o on-route y (subst (λ q. among y q ≡ true) e i)
 
-      touches-a : touches f part a (part x) ≡ true
+      touches-a : touches f a (part-of f x) ≡ true
       touches-a = ⊎-elim (λ (q : x ≡ f .bay a). absurd (not-bay f a x l o q))
-          (λ (q : (open-square f x ≡ true) × (touches f part a (part x) ≡ true)). q .1)
-          (step-mine f part two a (h t a .at) x xs on-route (r .roams t a l .here))
+          (λ (q : (open-square f x ≡ true) × (touches f a (part-of f x) ≡ true)). q .1)
+          (step-own f a (h t a .at) x xs on-route (r .own t a l .here))
 
       open-way : Served (257 * (f .shuttles + d)) t
       open-way = ⊎-elim
-          (λ (g : (j : ℕ) × (j < f .shuttles) × ((not (eqb a j) && touches f part j (part x)) ≡ true)).
+          (λ (g : (j : ℕ) × (j < f .shuttles) × ((not (eqb a j) && touches f j (part-of f x)) ≡ true)).
           let (b, m, q) = g in
-          let (q₁, q₂) = and-parts (not (eqb a b)) (touches f part b (part x)) q in
+          let (q₁, q₂) = and-parts (not (eqb a b)) (touches f b (part-of f x)) q in
           let ne = eqb-false a b (not-true _ q₁) in
-          served (part x) squares b m ne
+          served (part-of f x) squares b m ne
           (λ j mj nj tj. ⊎-elim (λ z. absurd (ne z)) (λ z. ⊎-elim (λ z. absurd (nj z)) (λ (z : b ≡ j). sym z) z)
-          (two .two a b j (part x) l m mj touches-a q₂ tj))
-          256 t e₀ (r .roams t b m .short))
-          (λ (g : (j : ℕ) → j < f .shuttles → (not (eqb a j) && touches f part j (part x)) ≡ false).
+          (two-touch f two a b j (part-of f x) l m mj touches-a q₂ tj))
+          256 t e₀ (r .own t b m .short))
+          (λ (g : (j : ℕ) → j < f .shuttles → (not (eqb a j) && touches f j (part-of f x)) ≡ false).
           few t (alone (λ t′ e′ j m ne y i. false-from _ (λ v. ⊎-elim
           (λ (z : y ≡ f .bay a). own-bay t′ a j l m ne (subst (λ y. holds (h t′ j) y ≡ true) z v))
-          (λ (z : (open-square f y ≡ true) × (part y ≡ part x)). both-ways _ (g j m) (and-from _ _ (not-from-false _ (ne-eqb a j ne))
-          (subst (λ q. touches f part j q ≡ true) (z .1) (touching t′ j y m (z .0) v))))
+          (λ (z : (open-square f y ≡ true) × (part-of f y ≡ part-of f x)). both-ways _ (g j m) (and-from _ _ (not-from-false _ (ne-eqb a j ne))
+          (subst (λ q. touches f j q ≡ true) (z .1) (touching t′ j y m (z .0) v))))
           (squares y (subst (λ k. among y (k .route) ≡ true) e′ i)))) t e₀))
-          (some-below (f .shuttles) (λ j. not (eqb a j) && touches f part j (part x)))
+          (some-below (f .shuttles) (λ j. not (eqb a j) && touches f j (part-of f x)))
 
     by-route : (t : ℕ) → h t a ≡ s → (q : List ℕ) → s .route ≡ q → Served (257 * (f .shuttles + d)) t
     unfolding is-empty

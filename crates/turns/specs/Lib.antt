@@ -6,3 +6,4 @@ pub mod Home
 pub mod Night
 pub mod Starving
 pub mod Parts
+pub mod Waiting

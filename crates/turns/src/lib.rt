@@ -4,7 +4,8 @@ ghost use Rattle.turns.specs.Rows.{Ticks-are-rows, Due-come, Waits-count, Long
 ghost use Rattle.turns.specs.Bound.{All-done-in-time};
 ghost use Rattle.turns.specs.Home.{Home-in-time, Home-by-ticks};
 ghost use Rattle.turns.specs.Starving.{Starves};
-ghost use Rattle.turns.specs.Parts.{Nobody-starves, Each-comes-home};
+ghost use Rattle.turns.specs.Parts.{Parts-are-found, At-most-two-is-found};
+ghost use Rattle.turns.specs.Waiting.{Nobody-starves, Each-comes-home};
 
 // A tick is a row of the arrivals that are due and then at most one step, each of which happens.
 pub fn ticks_are_rows_stands() -> u8
@@ -59,6 +60,20 @@ pub fn home_by_ticks_stands() -> u8
 // every eight ticks, and one shuttle never gets a step.
 pub fn starves_stands() -> u8
     ensures { λ _. ⌜ Starves ⌝ }
+{
+    0
+}
+
+// The connected parts of a field are found by joining numbers of squares.
+pub fn parts_are_found_stands() -> u8
+    ensures { λ _. ⌜ Parts-are-found ⌝ }
+{
+    0
+}
+
+// And so whether each part touches at most two bays.
+pub fn at_most_two_is_found_stands() -> u8
+    ensures { λ _. ⌜ At-most-two-is-found ⌝ }
 {
     0
 }
