@@ -6,7 +6,7 @@ use mathlib.Core.Logic.{_⊎_, inl, inr, ⊎-elim}
 use Prim.Native.Nat.{ℕ, suc, _+_, _*_, _≤_, _<_}
 use native.Mathlib.Omega.{arith}
 use lib.Dec.{eqb, ltb}
-use lib.ListN.{length}
+use lib.ListN.{length, getD}
 use Rattle.std.proofs.shelf.Tests.{both-ways, cases-bool, cases-eq, cond-both, and-parts, and-from, or-cases, or-left, or-right, not-true, not-from-false}
 use Rattle.std.proofs.shelf.Tests.{eqb-true, eq-eqb, ltb-true, lt-ltb}
 use Rattle.std.proofs.shelf.Ways.{tells}
@@ -28,12 +28,12 @@ use Rattle.promise.specs.Rule.{shuttles}
 use Rattle.promise.proofs.Shuttles.{blocks-is, holds-is}
 use Rattle.promise.proofs.Places.{May-step, route-tells, bays-differ, route-avoids, steps, idle-home}
 use Rattle.promise.proofs.Events.{takes-tells, grants-tells, grants-from, arrives-tells, Good, good-after}
-use Rattle.turns.specs.Parts.{open-square, linked, link, at-bay, part-of, touches}
-use Rattle.turns.proofs.Finding.{parts-are-found, touches-from}
+use Rattle.turns.specs.Parts.{open-square, linked, link, at-bay, parts, touches}
+use Rattle.turns.proofs.Finding.{one-number, touches-from}
 
 -- the squares where shuttle i can be: its bay, and the open squares of the parts that its bay touches
 abbrev pub Own : Field → ℕ → ℕ → Type 0
-Own f i c = (c ≡ f .bay i) ⊎ ((open-square f c ≡ true) × (touches f i (part-of f c) ≡ true))
+Own f i c = (c ≡ f .bay i) ⊎ ((open-square f c ≡ true) × (touches f (parts f) i (getD (parts f) c 0) ≡ true))
 
 open-is : (f : Field) (c : ℕ) → open-square f c ≡ true → (free-square f c ≡ true) × (is-bay f c ≡ false)
 unfolding open-square
@@ -57,9 +57,9 @@ next-is f i c d ds h =
 
 module _ (f : Field) where
   -- open squares beside each other are in one part
-  one-part-of : (c d : ℕ) → open-square f c ≡ true → open-square f d ≡ true → beside f c d ≡ true → part-of f c ≡ part-of f d
+  one-part-of : (c d : ℕ) → open-square f c ≡ true → open-square f d ≡ true → beside f c d ≡ true → getD (parts f) c 0 ≡ getD (parts f) d 0
   unfolding linked
-  one-part-of c d a b e = parts-are-found f c d .1 (link c d (and-from _ _ a (and-from _ _ b e)))
+  one-part-of c d a b e = one-number f (link c d (and-from _ _ a (and-from _ _ b e)))
 
   pub step-own : (i c d : ℕ) (ds : List ℕ) → route-ok f i c (d ∷ ds) ≡ true → Own f i c → Own f i d
   unfolding at-bay
@@ -67,28 +67,28 @@ module _ (f : Field) where
       let s = route-tells f i c d ds h in
       ⊎-elim
       (λ (o : open-square f d ≡ true). inr (o, ⊎-elim
-      (λ (e : c ≡ f .bay i). touches-from f i d (part-of f d) (and-from _ _ o (subst (λ x. beside f x d ≡ true) e (s .next-to))) refl)
-      (λ (q : (open-square f c ≡ true) × (touches f i (part-of f c) ≡ true)).
-      subst (λ p. touches f i p ≡ true) (one-part-of c d (q .0) o (s .next-to)) (q .1))
+      (λ (e : c ≡ f .bay i). touches-from f i d (getD (parts f) d 0) (and-from _ _ o (subst (λ x. beside f x d ≡ true) e (s .next-to))) refl)
+      (λ (q : (open-square f c ≡ true) × (touches f (parts f) i (getD (parts f) c 0) ≡ true)).
+      subst (λ p. touches f (parts f) i p ≡ true) (one-part-of c d (q .0) o (s .next-to)) (q .1))
       m))
       (λ (o : (d ≡ f .bay i) × (is-empty ds ≡ true)). inl (o .0))
       (next-is f i c d ds h)
 
   -- all open squares of a route from an open square are in its part
   pub one-part : (i c : ℕ) (r : List ℕ) → open-square f c ≡ true → route-ok f i c r ≡ true → (x : ℕ) → among x r ≡ true →
-      (x ≡ f .bay i) ⊎ ((open-square f x ≡ true) × (part-of f x ≡ part-of f c))
+      (x ≡ f .bay i) ⊎ ((open-square f x ≡ true) × (getD (parts f) x 0 ≡ getD (parts f) c 0))
   unfolding among is-empty
   one-part i c [] o h x a = absurd (both-ways false refl a)
   one-part i c (d ∷ ds) o h x a =
       let s = route-tells f i c d ds h in
-      let rest : open-square f d ≡ true → among x ds ≡ true → (x ≡ f .bay i) ⊎ ((open-square f x ≡ true) × (part-of f x ≡ part-of f d)) = λ o′ a′.
+      let rest : open-square f d ≡ true → among x ds ≡ true → (x ≡ f .bay i) ⊎ ((open-square f x ≡ true) × (getD (parts f) x 0 ≡ getD (parts f) d 0)) = λ o′ a′.
           one-part i d ds o′ (s .after) x a′ in
       ⊎-elim
       (λ (o′ : open-square f d ≡ true).
-      let e : part-of f d ≡ part-of f c = sym (one-part-of c d o o′ (s .next-to)) in
+      let e : getD (parts f) d 0 ≡ getD (parts f) c 0 = sym (one-part-of c d o o′ (s .next-to)) in
       ⊎-elim
-      (λ q. let z = eqb-true x d q in inr (subst (λ y. open-square f y ≡ true) (sym z) o′, ap (part-of f) z ∙ e))
-      (λ q. ⊎-elim inl (λ (b : (open-square f x ≡ true) × (part-of f x ≡ part-of f d)). inr (b .0, b .1 ∙ e)) (rest o′ q))
+      (λ q. let z = eqb-true x d q in inr (subst (λ y. open-square f y ≡ true) (sym z) o′, ap (λ y. getD (parts f) y 0) z ∙ e))
+      (λ q. ⊎-elim inl (λ (b : (open-square f x ≡ true) × (getD (parts f) x 0 ≡ getD (parts f) d 0)). inr (b .0, b .1 ∙ e)) (rest o′ q))
       (or-cases _ _ a))
       (λ (b : (d ≡ f .bay i) × (is-empty ds ≡ true)). ⊎-elim (λ q. inl (eqb-true x d q ∙ b .0)) (λ q. absurd (none ds (b .1) q)) (or-cases _ _ a))
       (next-is f i c d ds h)
@@ -99,10 +99,10 @@ module _ (f : Field) where
 
   -- so are those of a route whose first square is open
   pub first-part : (i c d : ℕ) (ds : List ℕ) → open-square f d ≡ true → route-ok f i c (d ∷ ds) ≡ true → (x : ℕ) → among x (d ∷ ds) ≡ true →
-      (x ≡ f .bay i) ⊎ ((open-square f x ≡ true) × (part-of f x ≡ part-of f d))
+      (x ≡ f .bay i) ⊎ ((open-square f x ≡ true) × (getD (parts f) x 0 ≡ getD (parts f) d 0))
   unfolding among
   first-part i c d ds o h x a = ⊎-elim
-      (λ q. let z = eqb-true x d q in inr (subst (λ y. open-square f y ≡ true) (sym z) o, ap (part-of f) z))
+      (λ q. let z = eqb-true x d q in inr (subst (λ y. open-square f y ≡ true) (sym z) o, ap (λ y. getD (parts f) y 0) z))
       (λ q. one-part i d ds o (route-tells f i c d ds h .after) x q) (or-cases _ _ a)
 
   -- where each shuttle is, and how much it has left at most

@@ -6,7 +6,7 @@ use mathlib.Core.Logic.{_⊎_, inl, inr, ⊎-elim}
 use Prim.Native.Nat.{ℕ, zero, suc, _+_, _*_, _≤_, _<_}
 use native.Mathlib.Omega.{arith}
 use lib.Dec.{eqb}
-use lib.ListN.{length}
+use lib.ListN.{length, getD}
 use Rattle.std.proofs.shelf.Tests.{both-ways, cases-bool, cases-eq, cond-true, cond-false, cond-both, and-parts, and-from, or-cases, or-left, not-true, not-from-false, eqb-true, eqb-false, eq-eqb, ne-eqb}
 use Rattle.std.proofs.shelf.Ways.{tells}
 use Rattle.rules.specs.Tests.{among, is-empty}
@@ -22,7 +22,7 @@ use Rattle.promise.proofs.Shuttles.{blocks-is}
 use Rattle.promise.proofs.Places.{bays-differ, route-avoids, steps, idle-home}
 use Rattle.promise.proofs.Events.{Good}
 use Rattle.turns.specs.Tick.{waits, one-more}
-use Rattle.turns.specs.Parts.{open-square, At-most-two, part-of, touches}
+use Rattle.turns.specs.Parts.{open-square, At-most-two, parts, touches}
 use Rattle.turns.proofs.Finding.{two-touch}
 use Rattle.turns.proofs.Fair.{turn-comes}
 use Rattle.turns.proofs.Choices.{Choices, waits-from, waits-tells, waits-not, holds-at, more-least, stops, shorter}
@@ -54,13 +54,13 @@ module _ (f : Field) (ok : sound f ≡ true) (two : At-most-two f) (d : ℕ) (h 
   own-bay : (t i j : ℕ) → i < f .shuttles → j < f .shuttles → (i ≡ j → ⊥) → holds (h t j) (f .bay i) ≡ true → ⊥
   own-bay t i j l m ne v = ⊎-elim
       (λ (e : f .bay i ≡ f .bay j). ne (bays-differ f ok i j l m e))
-      (λ (o : (open-square f (f .bay i) ≡ true) × (touches f j (part-of f (f .bay i)) ≡ true)). not-bay f i (f .bay i) l (o .0) refl)
+      (λ (o : (open-square f (f .bay i) ≡ true) × (touches f (parts f) j (getD (parts f) (f .bay i) 0) ≡ true)). not-bay f i (f .bay i) l (o .0) refl)
       (held-own f j (h t j) (r .own t j m) (f .bay i) v)
 
   -- who holds an open square touches its part
-  touching : (t j x : ℕ) → j < f .shuttles → open-square f x ≡ true → holds (h t j) x ≡ true → touches f j (part-of f x) ≡ true
+  touching : (t j x : ℕ) → j < f .shuttles → open-square f x ≡ true → holds (h t j) x ≡ true → touches f (parts f) j (getD (parts f) x 0) ≡ true
   touching t j x m o v = ⊎-elim (λ (e : x ≡ f .bay j). absurd (not-bay f j x m o e))
-      (λ (q : (open-square f x ≡ true) × (touches f j (part-of f x) ≡ true)). q .1)
+      (λ (q : (open-square f x ≡ true) × (touches f (parts f) j (getD (parts f) x 0) ≡ true)). q .1)
       (held-own f j (h t j) (r .own t j m) x v)
 
   -- shuttle a, which waits as it is in s
@@ -105,17 +105,17 @@ module _ (f : Field) (ok : sound f ≡ true) (two : At-most-two f) (d : ℕ) (h 
         (k, x, y, ⊎-elim (λ v. v) (λ (v : ⊥). absurd v) z)
 
     -- the squares that a has left are its bay or in one part p, which another, b, touches too, and nobody else
-    module _ (p : ℕ) (squares : (x : ℕ) → among x (s .route) ≡ true → (x ≡ f .bay a) ⊎ ((open-square f x ≡ true) × (part-of f x ≡ p)))
+    module _ (p : ℕ) (squares : (x : ℕ) → among x (s .route) ≡ true → (x ≡ f .bay a) ⊎ ((open-square f x ≡ true) × (getD (parts f) x 0 ≡ p)))
         (b : ℕ) (m : b < f .shuttles) (ne : a ≡ b → ⊥)
-        (only : (j : ℕ) → j < f .shuttles → (a ≡ j → ⊥) → touches f j p ≡ true → j ≡ b) where
+        (only : (j : ℕ) → j < f .shuttles → (a ≡ j → ⊥) → touches f (parts f) j p ≡ true → j ≡ b) where
       -- if b stands beside its way, a is clear
       a-clear : (t : ℕ) → h t a ≡ s → h t b .moving ≡ false → among (h t b .at) (s .route) ≡ false → Clear f (h t) a
       a-clear t e v u j mj nj x i = false-from _ (λ y.
           let i′ = subst (λ q. among x (q .route) ≡ true) e i in
           ⊎-elim
           (λ (z : x ≡ f .bay a). own-bay t a j l mj nj (subst (λ q. holds (h t j) q ≡ true) z y))
-          (λ (z : (open-square f x ≡ true) × (part-of f x ≡ p)).
-          let same : j ≡ b = only j mj nj (subst (λ q. touches f j q ≡ true) (z .1) (touching t j x mj (z .0) y)) in
+          (λ (z : (open-square f x ≡ true) × (getD (parts f) x 0 ≡ p)).
+          let same : j ≡ b = only j mj nj (subst (λ q. touches f (parts f) j q ≡ true) (z .1) (touching t j x mj (z .0) y)) in
           let here : h t b .at ≡ x = stands-holds (h t b) x v (subst (λ q. holds (h t q) x ≡ true) same y) in
           both-ways _ u (subst (λ q. among q (s .route) ≡ true) (sym here) i′))
           (squares x i′))
@@ -124,8 +124,8 @@ module _ (f : Field) (ok : sound f ≡ true) (two : At-most-two f) (d : ℕ) (h 
       b-clear : (t : ℕ) → h t a ≡ s → h t b .moving ≡ false → among (h t b .at) (s .route) ≡ true → Clear f (h t) b
       b-clear t e v u j mj nj x i = false-from _ (λ y. ⊎-elim
           (λ (z : x ≡ f .bay b). own-bay t b j m mj nj (subst (λ q. holds (h t j) q ≡ true) z y))
-          (λ (z : (open-square f x ≡ true) × (part-of f x ≡ part-of f (h t b .at))).
-          let t′ : touches f j p ≡ true = subst (λ q. touches f j q ≡ true) (z .1 ∙ place .1) (touching t j x mj (z .0) y) in
+          (λ (z : (open-square f x ≡ true) × (getD (parts f) x 0 ≡ getD (parts f) (h t b .at) 0)).
+          let t′ : touches f (parts f) j p ≡ true = subst (λ q. touches f (parts f) j q ≡ true) (z .1 ∙ place .1) (touching t j x mj (z .0) y) in
           ⊎-elim
           (λ (q : a ≡ j).
           let here : h t a .at ≡ x = stands-holds (h t a) x (ap (λ k. k .moving) e ∙ stands) (subst (λ k. holds (h t k) x ≡ true) (sym q) y) in
@@ -135,7 +135,7 @@ module _ (f : Field) (ok : sound f ≡ true) (two : At-most-two f) (d : ℕ) (h 
           (cases-eq a j))
           (one-part f b (h t b .at) (h t b .route) (place .0) (r .good t .each b m .on-route) x i))
         where
-          place : (open-square f (h t b .at) ≡ true) × (part-of f (h t b .at) ≡ p)
+          place : (open-square f (h t b .at) ≡ true) × (getD (parts f) (h t b .at) 0 ≡ p)
           place = ⊎-elim
               (λ (z : h t b .at ≡ f .bay a). absurd (own-bay t a b l m ne (subst (λ q. holds (h t b) q ≡ true) z (holds-at (h t b)))))
               (λ z. z) (squares (h t b .at) u)
@@ -272,31 +272,31 @@ module _ (f : Field) (ok : sound f ≡ true) (two : At-most-two f) (d : ℕ) (h 
     -- its next square is open: either another touches its part or nobody does
     module _ (t : ℕ) (e₀ : h t a ≡ s) (x : ℕ) (xs : List ℕ) (e : s .route ≡ x ∷ xs) (o : open-square f x ≡ true)
         (on-route : route-ok f a (h t a .at) (x ∷ xs) ≡ true) where
-      squares : (y : ℕ) → among y (s .route) ≡ true → (y ≡ f .bay a) ⊎ ((open-square f y ≡ true) × (part-of f y ≡ part-of f x))
+      squares : (y : ℕ) → among y (s .route) ≡ true → (y ≡ f .bay a) ⊎ ((open-square f y ≡ true) × (getD (parts f) y 0 ≡ getD (parts f) x 0))
       squares y i = first-part f a (h t a .at) x xs o on-route y (subst (λ q. among y q ≡ true) e i)
 
-      touches-a : touches f a (part-of f x) ≡ true
+      touches-a : touches f (parts f) a (getD (parts f) x 0) ≡ true
       touches-a = ⊎-elim (λ (q : x ≡ f .bay a). absurd (not-bay f a x l o q))
-          (λ (q : (open-square f x ≡ true) × (touches f a (part-of f x) ≡ true)). q .1)
+          (λ (q : (open-square f x ≡ true) × (touches f (parts f) a (getD (parts f) x 0) ≡ true)). q .1)
           (step-own f a (h t a .at) x xs on-route (r .own t a l .here))
 
       open-way : Served (257 * (f .shuttles + d)) t
       open-way = ⊎-elim
-          (λ (g : (j : ℕ) × (j < f .shuttles) × ((not (eqb a j) && touches f j (part-of f x)) ≡ true)).
+          (λ (g : (j : ℕ) × (j < f .shuttles) × ((not (eqb a j) && touches f (parts f) j (getD (parts f) x 0)) ≡ true)).
           let (b, m, q) = g in
-          let (q₁, q₂) = and-parts (not (eqb a b)) (touches f b (part-of f x)) q in
+          let (q₁, q₂) = and-parts (not (eqb a b)) (touches f (parts f) b (getD (parts f) x 0)) q in
           let ne = eqb-false a b (not-true _ q₁) in
-          served (part-of f x) squares b m ne
+          served (getD (parts f) x 0) squares b m ne
           (λ j mj nj tj. ⊎-elim (λ z. absurd (ne z)) (λ z. ⊎-elim (λ z. absurd (nj z)) (λ (z : b ≡ j). sym z) z)
-          (two-touch f two a b j (part-of f x) l m mj touches-a q₂ tj))
+          (two-touch f two a b j (getD (parts f) x 0) l m mj touches-a q₂ tj))
           256 t e₀ (r .own t b m .short))
-          (λ (g : (j : ℕ) → j < f .shuttles → (not (eqb a j) && touches f j (part-of f x)) ≡ false).
+          (λ (g : (j : ℕ) → j < f .shuttles → (not (eqb a j) && touches f (parts f) j (getD (parts f) x 0)) ≡ false).
           few t (alone (λ t′ e′ j m ne y i. false-from _ (λ v. ⊎-elim
           (λ (z : y ≡ f .bay a). own-bay t′ a j l m ne (subst (λ y. holds (h t′ j) y ≡ true) z v))
-          (λ (z : (open-square f y ≡ true) × (part-of f y ≡ part-of f x)). both-ways _ (g j m) (and-from _ _ (not-from-false _ (ne-eqb a j ne))
-          (subst (λ q. touches f j q ≡ true) (z .1) (touching t′ j y m (z .0) v))))
+          (λ (z : (open-square f y ≡ true) × (getD (parts f) y 0 ≡ getD (parts f) x 0)). both-ways _ (g j m) (and-from _ _ (not-from-false _ (ne-eqb a j ne))
+          (subst (λ q. touches f (parts f) j q ≡ true) (z .1) (touching t′ j y m (z .0) v))))
           (squares y (subst (λ k. among y (k .route) ≡ true) e′ i)))) t e₀))
-          (some-below (f .shuttles) (λ j. not (eqb a j) && touches f j (part-of f x)))
+          (some-below (f .shuttles) (λ j. not (eqb a j) && touches f (parts f) j (getD (parts f) x 0)))
 
     by-route : (t : ℕ) → h t a ≡ s → (q : List ℕ) → s .route ≡ q → Served (257 * (f .shuttles + d)) t
     unfolding is-empty
