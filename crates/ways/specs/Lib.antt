@@ -1,0 +1,4 @@
+-- What a way through a row of squares is, and which of them is the first.
+pub mod Visit
+pub mod Order
+pub mod Shortest
