@@ -2,5 +2,8 @@
 pub mod Greedy
 pub mod Good
 pub mod Turn
+pub mod Around
+pub mod Spread
+pub mod Distances
 pub mod Leg
 pub mod Led
