@@ -45,6 +45,11 @@ beside-cases f c d h =
     (λ r. inr (inr (⊎-elim (λ e. inl (eqb-true (c + f .across) d e)) (λ e. inr (eqb-true (d + f .across) c e)) (or-cases (eqb (c + f .across) d) (eqb (d + f .across) c) r))))
     (or-cases (eqb (c / f .across) (d / f .across) && (eqb (suc c) d || eqb (suc d) c)) (eqb (c + f .across) d || eqb (d + f .across) c) h)
 
+-- what is beside another has that one beside it
+pub beside-sym : (f : Field) (c d : ℕ) → beside f c d ≡ true → beside f d c ≡ true
+unfolding beside
+beside-sym f c d h = grind (arith, tells)
+
 module _ (f : Field) (n c : ℕ) (wide : 1 ≤ f .across) (lc : c < n) where
   -- a square beside another is found around it, at the place of its step
   Found : ℕ → Type 0
@@ -134,3 +139,7 @@ module _ (f : Field) (n c : ℕ) (wide : 1 ≤ f .across) (lc : c < n) where
   around-beside down e (suc (suc zero)) lk = is-left
   around-beside down e (suc (suc (suc zero))) lk = is-up
   around-beside down e (suc (suc (suc (suc k)))) lk = absurd (omega arith)
+
+  pub around-inside : (down : ℕ) → n ≡ f .across * down → (k : ℕ) → k < 4 → getD (around (f .across) n c) k 0 < n
+  around-inside down e k lk =
+      ⊎-elim (λ (q : getD (around (f .across) n c) k 0 ≡ c). omega arith) (λ ne. around-beside down e k lk ne .1) (cases-eq (getD (around (f .across) n c) k 0) c)

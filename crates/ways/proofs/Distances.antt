@@ -51,8 +51,8 @@ module _ (f : Field) (g : ℕ) (end : Bool) (s : ℕ) (T : ℕ → ℕ) (D : Dis
       }
 
   module _ (wide : 1 ≤ f .across) (inside : s < f .across * f .down) (c : ℕ) (off : c ≡ g → ⊥) (known : T c < 65534) (most : T c ≤ T s) where
-    here : c < f .across * f .down
-    here = ⊎-elim (λ e. omega arith) (λ h. enter-inside f g end c h) (D .seen c known)
+    pub known-inside : c < f .across * f .down
+    known-inside = ⊎-elim (λ e. omega arith) (λ h. enter-inside f g end c h) (D .seen c known)
 
     -- the k-th square around is one nearer, and none before it is
     pub nearer :
@@ -63,14 +63,14 @@ module _ (f : Field) (g : ℕ) (end : Bool) (s : ℕ) (T : ℕ → ℕ) (D : Dis
         let n = f .across * f .down in
         let d = getD (around (f .across) n c) k 0 in
         let ne : d ≡ c → ⊥ = λ e. let z : T d ≡ T c = ap T e in omega arith in
-        let b = around-beside f n c wide here (f .down) refl k lk ne in
+        let b = around-beside f n c wide known-inside (f .down) refl k lk ne in
         record {
           off = off;
           next = b .0;
           enters = ⊎-elim (λ (e : d ≡ s). let z : T d ≡ T s = ap T e in absurd (omega arith)) (λ h. h) (D .seen d (omega arith));
           one = omega arith;
           first = λ e p h lt.
-            let q = beside-around f n c wide here e (enter-inside f g end e h) p in
+            let q = beside-around f n c wide known-inside e (enter-inside f g end e h) p in
             let up : capped T s c ≤ suc (capped T s e) = distances-bound .lower c e (D .seen c known) p h in
             let not-one : suc (T e) ≡ T c → ⊥ =
               λ z. none (turn f c e) (omega (arith, b .2)) (ap (λ (x : ℕ). suc (T x)) (q .1) ∙ z) in
@@ -83,6 +83,6 @@ module _ (f : Field) (g : ℕ) (end : Bool) (s : ℕ) (T : ℕ → ℕ) (D : Dis
         ⊎-elim
         (λ e. absurd (off e))
         (λ p. let n = f .across * f .down in
-          let q = beside-around f n c wide here (p .0) (enter-inside f g end (p .0) (p .1 .2)) (p .1 .1) in
+          let q = beside-around f n c wide known-inside (p .0) (enter-inside f g end (p .0) (p .1 .2)) (p .1 .1) in
           (turn f c (p .0), q .0, ap (λ (x : ℕ). suc (T x)) (q .1) ∙ sym (p .2)))
         (D .falls c known)

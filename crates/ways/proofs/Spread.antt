@@ -21,14 +21,15 @@ module _ (Hop : ℕ → ℕ → Type 0) (Seen : ℕ → Type 0) (hop-seen : (c d
     pub queued : (x : ℕ) → T x < 65534 → Done T x ⊎ ((j : ℕ) × (h ≤ j) × (j < t) × (Q j ≡ x))
     pub falls : (x : ℕ) → T x < 65534 → (x ≡ g) ⊎ ((y : ℕ) × Hop x y × (T x ≡ suc (T y)))
     pub seen : (x : ℕ) → T x < 65534 → Seen x
+    pub unseen : (x : ℕ) → T x ≡ 65535 → Seen x
     pub marked : (x : ℕ) → Seen x → (T x < 65534) ⊎ (T x ≡ 65535)
     pub goal : T g ≡ 0
 
   -- at first only the goal is known
   pub spread-start :
       (T Q : ℕ → ℕ) → T g ≡ 0 → Q 0 ≡ g → Seen g → ((x : ℕ) → (x ≡ g → ⊥) → 65534 ≤ T x) → ((x : ℕ) → Seen x → (x ≡ g) ⊎ (T x ≡ 65535))
-      → Spread T Q 0 1
-  spread-start T Q e q s far m =
+      → ((x : ℕ) → T x ≡ 65535 → Seen x) → Spread T Q 0 1
+  spread-start T Q e q s far m u =
       let only : (x : ℕ) → T x < 65534 → x ≡ g = λ x l. ⊎-elim (λ y. y) (λ ne. absurd (omega (arith, far x ne))) (cases-eq x g) in
       let zero-at : (x : ℕ) → T x < 65534 → T x ≡ 0 = λ x l. ap T (only x l) ∙ e in
       let first : (j : ℕ) → j < 1 → T (Q j) ≡ 0 = λ j l. let j0 : j ≡ 0 = omega arith in ap (λ (k : ℕ). T (Q k)) j0 ∙ (ap T q ∙ e) in
@@ -40,6 +41,7 @@ module _ (Hop : ℕ → ℕ → Type 0) (Seen : ℕ → Type 0) (hop-seen : (c d
         queued = λ x l. inr (0, omega arith, omega arith, q ∙ sym (only x l));
         falls = λ x l. inl (only x l);
         seen = λ x l. subst Seen (sym (only x l)) s;
+        unseen = u;
         marked = λ x p. ⊎-elim (λ y. inl (let z = ap T y ∙ e in omega arith)) (λ z. inr z) (m x p);
         goal = e
       }
@@ -64,6 +66,7 @@ module _ (Hop : ℕ → ℕ → Type 0) (Seen : ℕ → Type 0) (hop-seen : (c d
           (S .queued x k);
         falls = S .falls;
         seen = S .seen;
+        unseen = S .unseen;
         marked = S .marked;
         goal = S .goal
       }
@@ -126,6 +129,10 @@ module _ (Hop : ℕ → ℕ → Type 0) (Seen : ℕ → Type 0) (hop-seen : (c d
               (S .falls x (p .1)))
             (known x k);
           seen = λ x k. ⊎-elim (λ e. subst Seen (sym e) (hop-seen y (Q h) hop)) (λ p. S .seen x (p .1)) (known x k);
+          unseen = λ x k. ⊎-elim
+            (λ (e : x ≡ y). let z : T′ x ≡ suc (T (Q h)) = ap T′ e ∙ put in absurd (omega arith))
+            (λ ne. S .unseen x (sym (kept x ne) ∙ k))
+            (cases-eq x y);
           marked = λ x s. ⊎-elim
             (λ (e : x ≡ y). inl (let z : T′ x ≡ suc (T (Q h)) = ap T′ e ∙ put in omega arith))
             (λ ne. ⊎-elim (λ k. inl (let z = kept x ne in omega arith)) (λ k. inr (kept x ne ∙ k)) (S .marked x s))

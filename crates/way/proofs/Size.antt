@@ -1,0 +1,37 @@
+-- How large a field of the code is at most, and that the ends of a leg lie in a table.
+use denote.Ref.{now}
+use mathlib.Core.Path.{_≡_, sym, subst}
+use Prim.Native.Nat.{ℕ, _*_, _≤_, _<_}
+use native.Mathlib.Omega.{arith}
+use lib.ListN.{length}
+use Rattle.std.proofs.shelf.Bits.{mul-le}
+use Rattle.field.specs.declared.field.Field.{Field as Lent}
+use Rattle.field.proofs.Facts.{facts}
+use Rattle.way.specs.declared.leg.Leg.{Leg}
+
+pub record Sizes (f : Lent) : Type 0 where
+  pub wide : 1 ≤ f .across
+  pub across-most : f .across ≤ 64
+  pub squares-most : f .across * f .down ≤ 4096
+  pub walls-long : length (now (f .walls)) ≡ f .across * f .down
+  pub walls-most : length (now (f .walls)) ≤ 4096
+  pub bays-most : length (now (f .bays)) ≤ 16
+
+pub sizes : (f : Lent) → Sizes f
+sizes f =
+    let k = facts f in
+    let m : f .across * f .down ≤ 4096 = mul-le (f .across) (f .down) 64 64 (k .across-most) (k .down-most) in
+    record {
+      wide = k .across-least;
+      across-most = k .across-most;
+      squares-most = m;
+      walls-long = k .walls-long;
+      walls-most = omega (arith, k .walls-long);
+      bays-most = k .few
+    }
+
+pub start-below : (l : Leg) → l .start < 4096
+start-below l = omega (arith, l .here, sizes (l .field) .squares-most)
+
+pub goal-below : (l : Leg) → l .goal < 4096
+goal-below l = omega (arith, l .there, sizes (l .field) .squares-most)

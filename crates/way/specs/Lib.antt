@@ -1,0 +1,2 @@
+-- What the way's code computes with.
+pub mod Table

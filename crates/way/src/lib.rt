@@ -1,0 +1,5 @@
+// The shortest way of a shuttle through a row of squares and into its bay, the first by right, down, left, up.
+mod around;
+mod leg;
+mod spread;
+mod walk;
