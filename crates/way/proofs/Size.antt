@@ -1,11 +1,18 @@
 -- How large a field of the code is at most, and that the ends of a leg lie in a table.
 use denote.Ref.{now}
-use mathlib.Core.Path.{_≡_, sym, subst}
+use mathlib.Core.Path.{_≡_}
+use mathlib.Core.Bool.{true}
 use Prim.Native.Nat.{ℕ, _*_, _≤_, _<_}
 use native.Mathlib.Omega.{arith}
-use lib.ListN.{length}
+use lib.Dec.{ltb}
+use lib.ListN.{length, getD}
+use Rattle.std.proofs.shelf.Tests.{and-parts, ltb-true}
 use Rattle.std.proofs.shelf.Bits.{mul-le}
 use Rattle.field.specs.declared.field.Field.{Field as Lent}
+use Rattle.rules.specs.Field.{free-square}
+use Rattle.rules.specs.Memory.{field-in}
+use Rattle.rules.proofs.Fields.{sound-tells}
+use Rattle.field.specs.Model.{field-of}
 use Rattle.field.proofs.Facts.{facts}
 use Rattle.way.specs.declared.leg.Leg.{Leg}
 
@@ -35,3 +42,12 @@ start-below l = omega (arith, l .here, sizes (l .field) .squares-most)
 
 pub goal-below : (l : Leg) → l .goal < 4096
 goal-below l = omega (arith, l .there, sizes (l .field) .squares-most)
+
+-- a bay is a free square of its field
+pub bay-free : (f : Lent) (j : ℕ) → j < length (now (f .bays)) → free-square (field-of f) (getD (now (f .bays)) j 0) ≡ true
+unfolding field-in
+bay-free f j l = sound-tells (field-of f) (facts f .is-sound) .bay-free j l
+
+pub free-below : (f : Lent) (c : ℕ) → free-square (field-of f) c ≡ true → c < f .across * f .down
+unfolding free-square field-in
+free-below f c h = ltb-true c (f .across * f .down) (and-parts (ltb c (f .across * f .down)) _ h .0)

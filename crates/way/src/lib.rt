@@ -1,5 +1,6 @@
 // The shortest way of a shuttle through a row of squares and into its bay, the first by right, down, left, up.
 mod around;
+mod ground;
 mod leg;
 mod spread;
 mod walk;

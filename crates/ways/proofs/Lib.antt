@@ -11,3 +11,4 @@ pub mod Expand
 pub mod Prepared
 pub mod Ground
 pub mod Walk
+pub mod Marks
