@@ -1,2 +1,3 @@
 -- What the way's code computes with.
 pub mod Table
+pub mod Lead

@@ -2,5 +2,6 @@
 mod around;
 mod ground;
 mod leg;
+mod legs;
 mod spread;
 mod walk;

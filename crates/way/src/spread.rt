@@ -65,8 +65,8 @@ fn spread(leg: &Leg, distances: &mut [u16], queue: &mut [u16])
 }
 
 // The distance from the leg's start to its goal, or FAR if there is none; the table then has the distances of the squares between.
-pub fn measure(leg: &Leg, ground: &[u16], distances: &mut [u16], queue: &mut [u16]) -> u16
-    requires long { ⌜ (length (now ground) ≡ 4096) × (length (now distances) ≡ 4096) × (length (now queue) ≡ 4096) ⌝ }
+pub fn measure(leg: &Leg, ground: &[u16], distances: &mut [u16]) -> u16
+    requires long { ⌜ (length (now ground) ≡ 4096) × (length (now distances) ≡ 4096) ⌝ }
     requires over { ⌜ OverGround (now leg) (now ground) ⌝ }
     ensures bounded { λ r. ⌜ Bounded (now (leg .entry)) r ⌝ }
     ensures measured { λ r. ⌜ (r < 65534 → Measured (now (leg .entry)) (now (distances .exit)) × (distance-in (now (distances .exit)) (now (leg .entry) .start) ≡ r)) ⌝ }
@@ -74,6 +74,7 @@ pub fn measure(leg: &Leg, ground: &[u16], distances: &mut [u16], queue: &mut [u1
     if !prepare(leg, ground, distances) {
         return FAR;
     }
-    spread(leg, distances, queue);
+    let mut queue = [0; 4096];
+    spread(leg, distances, &mut queue);
     distances[leg.start as usize]
 }

@@ -133,3 +133,16 @@ module _ (f : Field) (i : ℕ) where
           (h .route);
         met = unmet-other c g d ds gs ne ∙ h .met
       }
+
+-- whether a square is met last, from what follows it
+pub final-same : (g : ℕ) (gs : List ℕ) (h : ℕ) → h ≡ g → final g (h ∷ gs) ≡ final g gs
+unfolding final
+final-same g gs h e = ap (λ (x : ℕ). is-empty (past g (x ∷ gs))) e ∙ ap is-empty (past-here g gs)
+
+pub final-other : (g : ℕ) (gs : List ℕ) (h : ℕ) → (h ≡ g → ⊥) → final g (h ∷ gs) ≡ false
+unfolding final is-empty
+final-other g gs h ne = ap is-empty (past-other g h gs (λ e. ne (sym e)))
+
+pub final-none : (g : ℕ) → final g [] ≡ true
+unfolding final past is-empty
+final-none g = refl

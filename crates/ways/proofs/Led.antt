@@ -90,7 +90,7 @@ module _ (f : Field) (i c₀ : ℕ) (gs₀ : List ℕ) where
         left = λ r h.
           let s = l .left r h in
           let a = arrives f i g gs c P B (s .0) c (inl refl) (s .1) in
-          (a .0, good-drop f i g gs (a .0) (a .1), omega (arith, s .2, a .2, length-append w u, falls-length f i g gs c P B u c F))
+          (a .0, good-drop f i g gs (a .0) (a .1), omega (arith, s .2, a .2, length-append w u, falls-length f g (final g gs) P (B .at-goal) u c F))
       }
 
   -- a leg that leads too far: none is short enough

@@ -40,6 +40,12 @@ abbrev pub Falls : Field → ℕ → Bool → (ℕ → ℕ) → ℕ → List ℕ
 Falls f g end P c [] = c ≡ g
 Falls f g end P c (d ∷ ds) = Nearer f g end P c d × Falls f g end P d ds
 
+-- the walk is as long as the numbers say
+pub falls-length :
+    (f : Field) (g : ℕ) (end : Bool) (P : ℕ → ℕ) → P g ≡ 0 → (w : List ℕ) (c : ℕ) → Falls f g end P c w → length w ≡ P c
+falls-length f g end P z [] c e = sym z ∙ sym (ap P e)
+falls-length f g end P z (d ∷ ds) c h = omega (arith, falls-length f g end P z ds d (h .1), h .0 .one)
+
 module _ (f : Field) (i g : ℕ) (gs : List ℕ) (c₀ : ℕ) (P : ℕ → ℕ) (B : Bounds f g (final g gs) c₀ P) where
   -- whatever is good comes to g, no sooner than the numbers say
   pub arrives :
@@ -58,11 +64,6 @@ module _ (f : Field) (i g : ℕ) (gs : List ℕ) (c₀ : ℕ) (P : ℕ → ℕ) 
           let t : (s : List ℕ) × Good f i g (g ∷ gs) s × (P d + length s ≤ length ds) =
             ⊎-elim (λ e. here ds d e (n .2)) (λ ne′. go ds d (inr (n .1)) (n .2) ne′) (cases-eq d g) in
           (t .0, t .1, omega (arith, t .2, B .lower c d seen (n .0) (n .1)))
-
-  -- the walk is as long as the numbers say
-  pub falls-length : (w : List ℕ) (c : ℕ) → Falls f g (final g gs) P c w → length w ≡ P c
-  falls-length [] c e = sym (B .at-goal) ∙ sym (ap P e)
-  falls-length (d ∷ ds) c h = omega (arith, falls-length ds d (h .1), h .0 .one)
 
   -- the best from g, with the walk before it, is the best from c
   module _ (home : final g gs ≡ true → g ≡ f .bay i) (v : List ℕ) (V : Best f i g (g ∷ gs) v) where
@@ -113,7 +114,7 @@ module _ (f : Field) (i g : ℕ) (gs : List ℕ) (c₀ : ℕ) (P : ℕ → ℕ) 
 
     pub leg-best : (w : List ℕ) → Falls f g (final g gs) P c₀ w → Best f i c₀ (g ∷ gs) (w ++ v)
     leg-best w h =
-        let n : length (w ++ v) ≡ P c₀ + length v = omega (arith, length-append w v, falls-length w c₀ h) in
+        let n : length (w ++ v) ≡ P c₀ + length v = omega (arith, length-append w v, falls-length f g (final g gs) P (B .at-goal) w c₀ h) in
         record {
           good = falls-good w c₀ h;
           least = λ r k. let a = arrives r c₀ (inl refl) k in omega (arith, a .2, V .least (a .0) (a .1));

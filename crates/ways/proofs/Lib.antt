@@ -12,3 +12,4 @@ pub mod Prepared
 pub mod Ground
 pub mod Walk
 pub mod Marks
+pub mod Leading
