@@ -1,7 +1,8 @@
 -- How large a field of the code is at most, and that the ends of a leg lie in a table.
-use denote.Ref.{now}
+use denote.Ref.{now, RefT}
 use mathlib.Core.Path.{_≡_}
 use mathlib.Core.Bool.{true}
+use mathlib.Core.List.{List}
 use Prim.Native.Nat.{ℕ, _*_, _≤_, _<_}
 use native.Mathlib.Omega.{arith}
 use lib.Dec.{ltb}
@@ -10,7 +11,7 @@ use Rattle.std.proofs.shelf.Tests.{and-parts, ltb-true}
 use Rattle.std.proofs.shelf.Bits.{mul-le}
 use Rattle.field.specs.declared.field.Field.{Field as Lent}
 use Rattle.rules.specs.Field.{free-square}
-use Rattle.rules.specs.Memory.{field-in}
+use Rattle.rules.specs.Memory.{field-in, field-ok}
 use Rattle.rules.proofs.Fields.{sound-tells}
 use Rattle.field.specs.Model.{field-of}
 use Rattle.field.proofs.Facts.{facts}
@@ -51,3 +52,7 @@ bay-free f j l = sound-tells (field-of f) (facts f .is-sound) .bay-free j l
 pub free-below : (f : Lent) (c : ℕ) → free-square (field-of f) c ≡ true → c < f .across * f .down
 unfolding free-square field-in
 free-below f c h = ltb-true c (f .across * f .down) (and-parts (ltb c (f .across * f .down)) _ h .0)
+
+-- the code's field, from numbers that are accepted
+abbrev pub lent : (across down : ℕ) (walls bays : RefT (List ℕ)) → field-ok across down (now walls) (now bays) ≡ true → Lent
+lent a d ws bs h = record { across = a; down = d; walls = ws; bays = bs; accepted = h }

@@ -13,3 +13,4 @@ pub mod Ground
 pub mod Walk
 pub mod Marks
 pub mod Leading
+pub mod Asked

@@ -3,3 +3,4 @@ pub mod Visit
 pub mod Around
 pub mod Order
 pub mod Shortest
+pub mod Asked
