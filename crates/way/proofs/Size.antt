@@ -35,7 +35,7 @@ sizes f =
       squares-most = m;
       walls-long = k .walls-long;
       walls-most = omega (arith, k .walls-long);
-      bays-most = k .few
+      bays-most = k .few;
     }
 
 pub start-below : (l : Leg) → l .start < 4096

@@ -19,11 +19,11 @@ abbrev pub Driven : Leg → ℕ → List ℕ → List ℕ → Option ℕ → Typ
 Driven l len before made answer =
     (P : ℕ → ℕ) × Bounds (field-of (l .field)) (l .goal) (l .last) (l .start) P
     × Cases answer (256 < len + P (l .start))
-      (λ place. (place ≤ 256) × Walked (field-of (l .field)) (l .goal) (l .last) P (l .start) len before made place)
+    (λ place. (place ≤ 256) × Walked (field-of (l .field)) (l .goal) (l .last) P (l .start) len before made place)
 
 -- the way through a row of goals, for each shuttle in whose bay the row ends: the best, in the places up to the answer, or none of at most 256 squares
 abbrev pub Leads : Lent → ℕ → List ℕ → List ℕ → Option ℕ → Type 0
 Leads f from goals made answer =
     (i : ℕ) → Ends (field-of f .bay i) goals
     → Cases answer ((r : List ℕ) → Good (field-of f) i from goals r → 256 < length r)
-      (λ n. (n ≤ 256) × Best (field-of f) i from goals (take n made))
+    (λ n. (n ≤ 256) × Best (field-of f) i from goals (take n made))

@@ -12,9 +12,21 @@ pub fn around(field: &Field, square: u16) -> [u16; 4]
     let across = field.across as u16;
     let squares = field.walls.len() as u16;
     let column = square % across;
-    let right = if column + 1 < across { square + 1 } else { square };
-    let below = if square + across < squares { square + across } else { square };
+    let right = if column + 1 < across {
+        square + 1
+    } else {
+        square
+    };
+    let below = if square + across < squares {
+        square + across
+    } else {
+        square
+    };
     let left = if column == 0 { square } else { square - 1 };
-    let above = if square < across { square } else { square - across };
+    let above = if square < across {
+        square
+    } else {
+        square - across
+    };
     [right, below, left, above]
 }

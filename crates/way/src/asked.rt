@@ -10,6 +10,7 @@ use field::Field;
 
 // The most squares that may be asked for, and the places that a route is given.
 const SQUARES: usize = 8;
+
 const PLACES: usize = 256;
 
 // Whether each square is one of the first `squares`.

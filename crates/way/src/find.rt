@@ -30,7 +30,16 @@ fn through(field: &Field, home: u16, from: u16, row: &[u16], made: &mut [u16]) -
 
 // The first, by right, down, left, up, of the shortest routes of a shuttle from a square through a row of squares, in the order of the row.
 // It is written to the front of `route`, whose other places stay as they were; nothing is written if there is none.
-pub fn way<'a>(across: u64, down: u64, walls: &'a [u8], bays: &'a [u16], shuttle: u64, from: u16, row: &[u16], route: &mut [u16]) -> Way
+pub fn way<'a>(
+    across: u64,
+    down: u64,
+    walls: &'a [u8],
+    bays: &'a [u16],
+    shuttle: u64,
+    from: u16,
+    row: &[u16],
+    route: &mut [u16],
+) -> Way
     ensures { λ r. ⌜ Answers (field-in across down (now (walls .entry)) (now (bays .entry))) shuttle from (now (row .entry)) (way-refusal across down (now (walls .entry)) (now (bays .entry)) shuttle from (now (row .entry)) (length (now (route .entry)))) (now (route .entry)) (now (route .exit)) r ⌝ }
 {
     if !is_field(across, down, walls, bays) {
@@ -39,7 +48,12 @@ pub fn way<'a>(across: u64, down: u64, walls: &'a [u8], bays: &'a [u16], shuttle
     if shuttle >= bays.len() as u64 {
         return Way::Refused(3);
     }
-    let field = Field { across, down, walls, bays };
+    let field = Field {
+        across,
+        down,
+        walls,
+        bays,
+    };
     let shuttle = shuttle as usize;
     if !is_asked(&field, shuttle, from, row, route.len()) {
         return Way::Refused(5);

@@ -58,7 +58,12 @@ pub fn lead(field: &Field, from: u16, goals: &[u16], made: &mut [u16]) -> Option
     for k in 0..goals.len() {
         let goal = goals[k];
         if goal != at {
-            let leg = Leg { field: *field, start: at, goal, last: is_last(goals, k) };
+            let leg = Leg {
+                field: *field,
+                start: at,
+                goal,
+                last: is_last(goals, k),
+            };
             len = drive(&leg, &ground, made, len)?;
             at = goal;
         }

@@ -1,10 +1,10 @@
 // Distances to the goal of a leg, which spread from it square by square.
 ghost use mathlib.Core.Path.{_≡_};
 ghost use mathlib.Core.Bool.{true, false};
-ghost use Prim.Native.Nat.{ℕ, suc, _+_, _<_, _≤_};
+ghost use Prim.Native.Nat.{suc, _+_, _<_, _≤_};
 ghost use lib.ListN.{length};
 ghost use Rattle.ways.proofs.Expand.{distance-in, unknown};
-ghost use Rattle.way.specs.Table.{OverGround, Ready, Shut, Spreads, Measured, Bounded};
+ghost use Rattle.way.specs.Table.{OverGround, Ready, Shut, Spreads, Waiting, Measured, Bounded};
 use super::around::around;
 use super::leg::Leg;
 
@@ -28,11 +28,7 @@ fn prepare(leg: &Leg, ground: &[u16], distances: &mut [u16]) -> bool
 
 // Gives each square around the first of the queue that none has come to yet its distance, and puts it at the queue's end; answers how many the queue then has.
 fn expand(leg: &Leg, head: usize, tail: usize, distances: &mut [u16], queue: &mut [u16]) -> usize
-    requires long { ⌜ (length (now distances) ≡ 4096) × (length (now queue) ≡ 4096) ⌝ }
-    requires left { ⌜ head < tail ⌝ }
-    requires room { ⌜ tail + unknown (now distances) ≤ 4096 ⌝ }
-    requires far { ⌜ distance-in (now distances) (now leg .start) ≡ 65535 ⌝ }
-    requires spreading { ⌜ Spreads (now leg) (now distances) (now queue) head tail ⌝ }
+    requires { ⌜ Waiting (now leg) (now distances) (now queue) head tail ⌝ }
     ensures room { λ r. ⌜ r + unknown (now (distances .exit)) ≤ 4096 ⌝ }
     ensures spreading { λ r. ⌜ Spreads (now (leg .entry)) (now (distances .exit)) (now (queue .exit)) (suc head) r ⌝ }
 {

@@ -1,19 +1,15 @@
 // The walk along the distances of a leg.
 ghost use mathlib.Core.Path.{_≡_};
-ghost use Prim.Native.Nat.{_+_, _<_, _≤_};
+ghost use Prim.Native.Nat.{_+_, _≤_};
 ghost use lib.ListN.{length};
 ghost use Rattle.ways.proofs.Expand.{distance-in};
-ghost use Rattle.way.specs.Table.{Measured, Nears, Written};
+ghost use Rattle.way.specs.Table.{Measured, Standing, Nears, Written};
 use super::around::around;
 use super::leg::Leg;
 
 // The first square around this one, by right, down, left, up, that is one nearer to the leg's goal.
 fn nearer(leg: &Leg, distances: &[u16], square: u16) -> u16
-    requires long { ⌜ length (now distances) ≡ 4096 ⌝ }
-    requires measured { ⌜ Measured (now leg) (now distances) ⌝ }
-    requires off { ⌜ (square ≡ now leg .goal → ⊥) ⌝ }
-    requires known { ⌜ distance-in (now distances) square < 65534 ⌝ }
-    requires most { ⌜ distance-in (now distances) square ≤ distance-in (now distances) (now leg .start) ⌝ }
+    requires { ⌜ Standing (now leg) (now distances) square ⌝ }
     ensures { λ r. ⌜ Nears (now (leg .entry)) (now (distances .entry)) square r ⌝ }
 {
     let wanted = distances[square as usize] - 1;

@@ -40,8 +40,8 @@ unfolding beside
 beside-cases f c d h =
     ⊎-elim
     (λ r. let p = and-parts (eqb (c / f .across) (d / f .across)) (eqb (suc c) d || eqb (suc d) c) r in
-      let row = eqb-true (c / f .across) (d / f .across) (p .0) in
-      ⊎-elim (λ e. inl (row, eqb-true (suc c) d e)) (λ e. inr (inl (row, eqb-true (suc d) c e))) (or-cases (eqb (suc c) d) (eqb (suc d) c) (p .1)))
+    let row = eqb-true (c / f .across) (d / f .across) (p .0) in
+    ⊎-elim (λ e. inl (row, eqb-true (suc c) d e)) (λ e. inr (inl (row, eqb-true (suc d) c e))) (or-cases (eqb (suc c) d) (eqb (suc d) c) (p .1)))
     (λ r. inr (inr (⊎-elim (λ e. inl (eqb-true (c + f .across) d e)) (λ e. inr (eqb-true (d + f .across) c e)) (or-cases (eqb (c + f .across) d) (eqb (d + f .across) c) r))))
     (or-cases (eqb (c / f .across) (d / f .across) && (eqb (suc c) d || eqb (suc d) c)) (eqb (c + f .across) d || eqb (d + f .across) c) h)
 
@@ -64,20 +64,20 @@ module _ (f : Field) (n c : ℕ) (wide : 1 ≤ f .across) (lc : c < n) where
   beside-around d ld h =
       ⊎-elim
       (λ r. let e : c / f .across ≡ suc c / f .across = subst (λ (x : ℕ). c / f .across ≡ x / f .across) (sym (r .1)) (r .0) in
-        let m : c % f .across + 1 < f .across = omega (arith, row-same (f .across) c wide e, mod-below (suc c) (f .across) wide) in
-        let q : suc c ≡ d = r .1 in
-        found d 0 (omega arith) (grind (arith, tells)) (grind (arith, tells)))
+      let m : c % f .across + 1 < f .across = omega (arith, row-same (f .across) c wide e, mod-below (suc c) (f .across) wide) in
+      let q : suc c ≡ d = r .1 in
+      found d 0 (omega arith) (grind (arith, tells)) (grind (arith, tells)))
       (λ o. ⊎-elim
-        (λ l. let e : d / f .across ≡ suc d / f .across = subst (λ (x : ℕ). d / f .across ≡ x / f .across) (sym (l .1)) (sym (l .0)) in
-          let m : c % f .across ≡ d % f .across + 1 = subst (λ (x : ℕ). x % f .across ≡ d % f .across + 1) (l .1) (row-same (f .across) d wide e) in
-          let w : c % f .across < f .across = mod-below c (f .across) wide in
-          let q : suc d ≡ c = l .1 in
-          found d 2 (omega arith) (grind (arith, tells)) (grind (arith, tells)))
-        (λ o′. ⊎-elim
-          (λ (q : c + f .across ≡ d). found d 1 (omega arith) (grind (arith, tells)) (grind (arith, tells)))
-          (λ (q : d + f .across ≡ c). found d 3 (omega arith) (grind (arith, tells)) (grind (arith, tells)))
-          o′)
-        o)
+      (λ l. let e : d / f .across ≡ suc d / f .across = subst (λ (x : ℕ). d / f .across ≡ x / f .across) (sym (l .1)) (sym (l .0)) in
+      let m : c % f .across ≡ d % f .across + 1 = subst (λ (x : ℕ). x % f .across ≡ d % f .across + 1) (l .1) (row-same (f .across) d wide e) in
+      let w : c % f .across < f .across = mod-below c (f .across) wide in
+      let q : suc d ≡ c = l .1 in
+      found d 2 (omega arith) (grind (arith, tells)) (grind (arith, tells)))
+      (λ o′. ⊎-elim
+      (λ (q : c + f .across ≡ d). found d 1 (omega arith) (grind (arith, tells)) (grind (arith, tells)))
+      (λ (q : d + f .across ≡ c). found d 3 (omega arith) (grind (arith, tells)) (grind (arith, tells)))
+      o′)
+      o)
       (beside-cases f c d h)
 
   -- a square around another, unless it is that square itself, is beside it
@@ -101,9 +101,9 @@ module _ (f : Field) (n c : ℕ) (wide : 1 ≤ f .across) (lc : c < n) where
     is-right =
         ⊎-elim
         (λ h. let row = row-next (f .across) c h in
-          let full : c / f .across < down = div-below c (f .across) down wide (omega (arith, mul-comm (f .across) down)) in
-          let fits : c / f .across * f .across + f .across ≤ down * f .across = omega (arith, mul-le-mul-right (f .across) full) in
-          placed 0 (suc c) (grind (arith, tells)) (grind (arith, tells)) (omega (arith, div-add-mod' c (f .across), mul-comm (f .across) down)) (grind (arith, tells)))
+        let full : c / f .across < down = div-below c (f .across) down wide (omega (arith, mul-comm (f .across) down)) in
+        let fits : c / f .across * f .across + f .across ≤ down * f .across = omega (arith, mul-le-mul-right (f .across) full) in
+        placed 0 (suc c) (grind (arith, tells)) (grind (arith, tells)) (omega (arith, div-add-mod' c (f .across), mul-comm (f .across) down)) (grind (arith, tells)))
         (λ h. absent 0 (grind (arith, tells)))
         (cases-lt (c % f .across + 1) (f .across))
 
@@ -119,9 +119,9 @@ module _ (f : Field) (n c : ℕ) (wide : 1 ≤ f .across) (lc : c < n) where
       ⊎-elim
       (λ z. absent 2 (grind (arith, tells)))
       (λ z. let row = row-before (f .across) c wide z in
-        let m : c % f .across < f .across = mod-below c (f .across) wide in
-        let pos : 1 ≤ c = omega (arith, div-add-mod' c (f .across)) in
-        placed 2 (c - 1) (grind (arith, tells)) (grind (arith, tells)) (omega arith) (grind (arith, tells)))
+      let m : c % f .across < f .across = mod-below c (f .across) wide in
+      let pos : 1 ≤ c = omega (arith, div-add-mod' c (f .across)) in
+      placed 2 (c - 1) (grind (arith, tells)) (grind (arith, tells)) (omega arith) (grind (arith, tells)))
       (cases-eq (c % f .across) 0)
 
   is-up : Around 3

@@ -50,5 +50,5 @@ asked-tells f i c row n h =
       few = leb-true _ _ (p .0);
       inside = λ k l. ltb-true _ _ (every-tells (λ g. ltb g (f .across * f .down)) row (q .0) k 0 l);
       free = and-parts (free-square f c) _ (s .0) .0;
-      places = eqb-true _ _ (s .1)
+      places = eqb-true _ _ (s .1);
     }

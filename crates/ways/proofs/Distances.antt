@@ -47,7 +47,7 @@ module _ (f : Field) (g : ℕ) (end : Bool) (s : ℕ) (T : ℕ → ℕ) (D : Dis
   distances-bound =
       record {
         at-goal = omega (arith, D .goal);
-        lower = λ c d p b e. ⊎-elim (λ l. omega (arith, D .lower c d (p, b, e) l)) (λ l. omega arith) (cases-lt (suc (T d)) (T s))
+        lower = λ c d p b e. ⊎-elim (λ l. omega (arith, D .lower c d (p, b, e) l)) (λ l. omega arith) (cases-lt (suc (T d)) (T s));
       }
 
   module _ (wide : 1 ≤ f .across) (inside : s < f .across * f .down) (c : ℕ) (off : c ≡ g → ⊥) (known : T c < 65534) (most : T c ≤ T s) where
@@ -70,11 +70,11 @@ module _ (f : Field) (g : ℕ) (end : Bool) (s : ℕ) (T : ℕ → ℕ) (D : Dis
           enters = ⊎-elim (λ (e : d ≡ s). let z : T d ≡ T s = ap T e in absurd (omega arith)) (λ h. h) (D .seen d (omega arith));
           one = omega arith;
           first = λ e p h lt.
-            let q = beside-around f n c wide known-inside e (enter-inside f g end e h) p in
-            let up : capped T s c ≤ suc (capped T s e) = distances-bound .lower c e (D .seen c known) p h in
-            let not-one : suc (T e) ≡ T c → ⊥ =
+              let q = beside-around f n c wide known-inside e (enter-inside f g end e h) p in
+              let up : capped T s c ≤ suc (capped T s e) = distances-bound .lower c e (D .seen c known) p h in
+              let not-one : suc (T e) ≡ T c → ⊥ =
               λ z. none (turn f c e) (omega (arith, b .2)) (ap (λ (x : ℕ). suc (T x)) (q .1) ∙ z) in
-            ⊎-elim (λ l. omega arith) (λ l. absurd (not-one (omega arith))) (cases-lt (capped T s c) (suc (capped T s e)))
+              ⊎-elim (λ l. omega arith) (λ l. absurd (not-one (omega arith))) (cases-lt (capped T s c) (suc (capped T s e)));
         }
 
     -- one of the four is
@@ -83,6 +83,6 @@ module _ (f : Field) (g : ℕ) (end : Bool) (s : ℕ) (T : ℕ → ℕ) (D : Dis
         ⊎-elim
         (λ e. absurd (off e))
         (λ p. let n = f .across * f .down in
-          let q = beside-around f n c wide known-inside (p .0) (enter-inside f g end (p .0) (p .1 .2)) (p .1 .1) in
-          (turn f c (p .0), q .0, ap (λ (x : ℕ). suc (T x)) (q .1) ∙ sym (p .2)))
+        let q = beside-around f n c wide known-inside (p .0) (enter-inside f g end (p .0) (p .1 .2)) (p .1 .1) in
+        (turn f c (p .0), q .0, ap (λ (x : ℕ). suc (T x)) (q .1) ∙ sym (p .2)))
         (D .falls c known)

@@ -61,9 +61,9 @@ module _ (f : Field) (g : ℕ) (end : Bool) (s c : ℕ) (table queue : List ℕ)
         first = E .first;
         enters = E .enters;
         passed = λ k l. ⊎-elim
-          (λ (e : k ≡ j). subst (λ (x : ℕ). distance-in table (getD (around (f .across) (f .across * f .down) c) x 0) ≡ 65535 → ⊥) (sym e) passes)
-          (λ ne. E .passed k (omega arith))
-          (cases-eq k j)
+            (λ (e : k ≡ j). subst (λ (x : ℕ). distance-in table (getD (around (f .across) (f .across * f .down) c) x 0) ≡ 65535 → ⊥) (sym e) passes)
+            (λ ne. E .passed k (omega arith))
+            (cases-eq k j);
       }
 
   -- one that is not gets its distance
@@ -93,7 +93,7 @@ module _ (f : Field) (g : ℕ) (end : Bool) (s c : ℕ) (table queue : List ℕ)
     hop : Hop f g end s d c
     hop =
         let ne : getD (around (f .across) (f .across * f .down) c) j 0 ≡ c → ⊥ =
-          λ e. let z : distance-in table d ≡ distance-in table c = ap (distance-in table) (sym is ∙ e) in omega (arith, low, E .left, put-room) in
+        λ e. let z : distance-in table d ≡ distance-in table c = ap (distance-in table) (sym is ∙ e) in omega (arith, low, E .left, put-room) in
         let b = around-beside f (f .across * f .down) c wide inside (f .down) refl j lj ne .0 in
         (E .spreading .unseen d far, beside-sym f c d (subst (λ (x : ℕ). beside f c x ≡ true) is b), E .enters)
 
@@ -139,10 +139,10 @@ module _ (f : Field) (g : ℕ) (end : Bool) (s c : ℕ) (table queue : List ℕ)
             first = getD-set-other queue tail head d 0 (λ z. omega (arith, E .left)) ∙ E .first;
             enters = E .enters;
             passed = λ k l. ⊎-elim
-              (λ (q : k ≡ j). subst (λ (x : ℕ). distance-in (set table d n) x ≡ 65535 → ⊥)
+                (λ (q : k ≡ j). subst (λ (x : ℕ). distance-in (set table d n) x ≡ 65535 → ⊥)
                 (sym is ∙ ap (λ (x : ℕ). getD (around (f .across) (f .across * f .down) c) x 0) (sym q)) (λ z. omega (arith, near, at-d)))
-              (λ ne. known (getD (around (f .across) (f .across * f .down) c) k 0) (E .passed k (omega arith)))
-              (cases-eq k j)
+                (λ ne. known (getD (around (f .across) (f .across * f .down) c) k 0) (E .passed k (omega arith)))
+                (cases-eq k j);
           }
 
   -- after the fourth it is done
@@ -150,11 +150,11 @@ module _ (f : Field) (g : ℕ) (end : Bool) (s c : ℕ) (table queue : List ℕ)
   expand-done wide start all =
       spread-done (Hop f g end s) (Seen f g end s) (hop-seen f g end s) g (distance-in table) (λ k. getD queue k 0) head tail (E .spreading) (E .left)
       (λ x p z.
-        let b : beside f c x ≡ true = beside-sym f x c (subst (λ (y : ℕ). beside f x y ≡ true) (E .first) (p .1)) in
-        let here : c < f .across * f .down = enter-inside f g end c (E .enters) in
-        let there : x < f .across * f .down = ⊎-elim (λ q. omega arith) (λ h. enter-inside f g end x h) (p .0) in
-        let q = beside-around f (f .across * f .down) c wide here x there b in
-        E .passed (turn f c x) (omega (arith, q .0)) (ap (distance-in table) (q .1) ∙ z))
+      let b : beside f c x ≡ true = beside-sym f x c (subst (λ (y : ℕ). beside f x y ≡ true) (E .first) (p .1)) in
+      let here : c < f .across * f .down = enter-inside f g end c (E .enters) in
+      let there : x < f .across * f .down = ⊎-elim (λ q. omega arith) (λ h. enter-inside f g end x h) (p .0) in
+      let q = beside-around f (f .across * f .down) c wide here x there b in
+      E .passed (turn f c x) (omega (arith, q .0)) (ap (distance-in table) (q .1) ∙ z))
 
 -- at first none of them is; the first of the queue may be entered, since it is known and the start is not
 pub expand-start :
@@ -171,8 +171,8 @@ expand-start f g end s table queue head tail lt lq l room S far =
       spreading = S;
       first = refl;
       enters = ⊎-elim
-        (λ e. let z : distance-in table (getD queue head 0) ≡ distance-in table s = ap (distance-in table) e in absurd (omega arith))
-        (λ h. h)
-        (S .seen (getD queue head 0) (omega arith));
-      passed = λ k lk. absurd (omega arith)
+          (λ e. let z : distance-in table (getD queue head 0) ≡ distance-in table s = ap (distance-in table) e in absurd (omega arith))
+          (λ h. h)
+          (S .seen (getD queue head 0) (omega arith));
+      passed = λ k lk. absurd (omega arith);
     }

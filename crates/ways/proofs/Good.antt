@@ -89,7 +89,7 @@ module _ (f : Field) (i : ℕ) where
   bay-last g d gs [] e m =
       ⊎-elim
       (λ (q : d ≡ g). and-from (eqb d g) (is-empty (past g gs)) (eq-eqb d g q)
-        (let n : past g gs ≡ [] = sym (past-here g gs) ∙ subst (λ (x : ℕ). past x (g ∷ gs) ≡ []) q (sym (unmet-stay d (g ∷ gs)) ∙ m) in ap is-empty n))
+      (let n : past g gs ≡ [] = sym (past-here g gs) ∙ subst (λ (x : ℕ). past x (g ∷ gs) ≡ []) q (sym (unmet-stay d (g ∷ gs)) ∙ m) in ap is-empty n))
       (λ ne. absurd (cons-nil g gs (sym (past-other d g gs ne) ∙ (sym (unmet-stay d (g ∷ gs)) ∙ m))))
       (cases-eq d g)
   bay-last g d gs (x ∷ xs) e m = absurd (both-ways false refl e)
@@ -103,14 +103,15 @@ module _ (f : Field) (i : ℕ) where
       let hs = and-parts (step-ok f i c d ds) (route-ok f i d ds) (h .route) in
       let ps = and-parts (beside f c d) (free-square f d && (not (is-bay f d) || (eqb d (f .bay i) && is-empty ds))) (hs .0) in
       let qs = and-parts (free-square f d) (not (is-bay f d) || (eqb d (f .bay i) && is-empty ds)) (ps .1) in
-      let m : unmet d ds (g ∷ gs) ≡ [] = sym (unmet-other c g d ds gs ne) ∙ h .met in
-      (ps .0
-      , and-from (free-square f d) (not (is-bay f d) || (eqb d g && final g gs)) (qs .0)
-        (⊎-elim
-          (λ o. or-left (not (is-bay f d)) (eqb d g && final g gs) o)
-          (λ b. or-right (not (is-bay f d)) (eqb d g && final g gs) (bay-last g d gs ds (and-parts (eqb d (f .bay i)) (is-empty ds) b .1) m))
-          (or-cases (not (is-bay f d)) (eqb d (f .bay i) && is-empty ds) (qs .1)))
-      , record { route = hs .1; met = m })
+      let m : unmet d ds (g ∷ gs) ≡ [] = sym (unmet-other c g d ds gs ne) ∙ h .met in (
+        ps .0,
+        and-from (free-square f d) (not (is-bay f d) || (eqb d g && final g gs)) (qs .0)
+            (⊎-elim
+            (λ o. or-left (not (is-bay f d)) (eqb d g && final g gs) o)
+            (λ b. or-right (not (is-bay f d)) (eqb d g && final g gs) (bay-last g d gs ds (and-parts (eqb d (f .bay i)) (is-empty ds) b .1) m))
+            (or-cases (not (is-bay f d)) (eqb d (f .bay i) && is-empty ds) (qs .1))),
+        record { route = hs .1; met = m },
+      )
 
   -- a step before what is good; into a bay only if that is the end
   pub good-step :
@@ -120,18 +121,18 @@ module _ (f : Field) (i : ℕ) where
   good-step c g d gs ds ne b e last h =
       let qs = and-parts (free-square f d) (not (is-bay f d) || (eqb d g && final g gs)) e in
       let o : (not (is-bay f d) || (eqb d (f .bay i) && is-empty ds)) ≡ true =
-        ⊎-elim
-        (λ y. let l = last y in or-right (not (is-bay f d)) (eqb d (f .bay i) && is-empty ds)
-          (and-from (eqb d (f .bay i)) (is-empty ds) (eq-eqb d (f .bay i) (l .0)) (ap is-empty (l .1))))
-        (λ n. or-left (not (is-bay f d)) (eqb d (f .bay i) && is-empty ds) (not-from-false (is-bay f d) n))
-        (cases-bool (is-bay f d)) in
+      ⊎-elim
+      (λ y. let l = last y in or-right (not (is-bay f d)) (eqb d (f .bay i) && is-empty ds)
+      (and-from (eqb d (f .bay i)) (is-empty ds) (eq-eqb d (f .bay i) (l .0)) (ap is-empty (l .1))))
+      (λ n. or-left (not (is-bay f d)) (eqb d (f .bay i) && is-empty ds) (not-from-false (is-bay f d) n))
+      (cases-bool (is-bay f d)) in
       record {
         route =
-          and-from (step-ok f i c d ds) (route-ok f i d ds)
-          (and-from (beside f c d) (free-square f d && (not (is-bay f d) || (eqb d (f .bay i) && is-empty ds))) b
+            and-from (step-ok f i c d ds) (route-ok f i d ds)
+            (and-from (beside f c d) (free-square f d && (not (is-bay f d) || (eqb d (f .bay i) && is-empty ds))) b
             (and-from (free-square f d) (not (is-bay f d) || (eqb d (f .bay i) && is-empty ds)) (qs .0) o))
-          (h .route);
-        met = unmet-other c g d ds gs ne ∙ h .met
+            (h .route);
+        met = unmet-other c g d ds gs ne ∙ h .met;
       }
 
 -- whether a square is met last, from what follows it

@@ -42,7 +42,7 @@ visits-past c r [] v = tt
 visits-past c r (g ∷ gs) v =
     ⊎-elim
     (λ e. let w : Visits (c ∷ r) (past c gs) = subst (λ (x : List ℕ). Visits (c ∷ r) x) (cond-true (eqb c g) (past c gs) (g ∷ gs) (eq-eqb c g e)) v in
-      subst (λ (x : ℕ). Visits (c ∷ r) (x ∷ gs)) e (visits-here c r gs (visits-past c r gs w)))
+    subst (λ (x : ℕ). Visits (c ∷ r) (x ∷ gs)) e (visits-here c r gs (visits-past c r gs w)))
     (λ ne. subst (λ (x : List ℕ). Visits (c ∷ r) x) (cond-false (eqb c g) (past c gs) (g ∷ gs) (ne-eqb c g ne)) v)
     (cases-eq c g)
 
@@ -95,9 +95,9 @@ met-on c d ds [] m = done
 met-on c d ds (g ∷ gs) m =
     ⊎-elim
     (λ e. let q : past c (g ∷ gs) ≡ past c gs = cond-true (eqb c g) (past c gs) (g ∷ gs) (eq-eqb c g e) in
-      subst (λ (x : List ℕ). Met d ds x) (sym q) (met-on c d ds gs (subst (λ (x : List ℕ). Met c (d ∷ ds) x) q m)))
+    subst (λ (x : List ℕ). Met d ds x) (sym q) (met-on c d ds gs (subst (λ (x : List ℕ). Met c (d ∷ ds) x) q m)))
     (λ ne. let q : past c (g ∷ gs) ≡ g ∷ gs = cond-false (eqb c g) (past c gs) (g ∷ gs) (ne-eqb c g ne) in
-      subst (λ (x : List ℕ). Met d ds x) (sym q) (met-next (subst (λ (x : List ℕ). Met c (d ∷ ds) x) q m) ne))
+    subst (λ (x : List ℕ). Met d ds x) (sym q) (met-next (subst (λ (x : List ℕ). Met c (d ∷ ds) x) q m) ne))
     (cases-eq c g)
 
 past-all : (c : ℕ) (gs : List ℕ) → Met c [] gs → past c gs ≡ []

@@ -40,12 +40,12 @@ ground-prepared f g end s ground table G e apart zero far same =
       enters = e;
       goal = zero;
       marks = λ x ne. ⊎-elim
-        (λ (q : x ≡ s). inl (inl q, ap (distance-in table) q ∙ far))
-        (λ ns. ⊎-elim
+          (λ (q : x ≡ s). inl (inl q, ap (distance-in table) q ∙ far))
+          (λ ns. ⊎-elim
           (λ y. inl (inr (enter-off f g end x ne ∙ y), same x ne ns ∙ (G x ∙ cond-true (is-open f x) 65535 65534 y)))
           (λ n. inr ((λ v. ⊎-elim ns (λ h. both-ways (is-open f x) n (sym (enter-off f g end x ne) ∙ h)) v), same x ne ns ∙ (G x ∙ cond-false (is-open f x) 65535 65534 n)))
           (cases-bool (is-open f x)))
-        (cases-eq x s)
+          (cases-eq x s);
     }
 
 -- whether the goal may be entered

@@ -50,9 +50,9 @@ module _ (f : Field) (i from : ℕ) (goals made : List ℕ) (at len k : ℕ) (L 
     leading-met e =
         record {
           led = led-met f i from goals (take len made) at (drop (k + 1) goals)
-            (subst (λ (x : ℕ). Led f i from goals (take len made) at (x ∷ drop (k + 1) goals)) e here);
+              (subst (λ (x : ℕ). Led f i from goals (take len made) at (x ∷ drop (k + 1) goals)) e here);
           ends = ends-rest (f .bay i) (getD goals k 0) (drop (k + 1) goals) left;
-          home = λ z. sym e ∙ ends-last (f .bay i) (getD goals k 0) (drop (k + 1) goals) left z
+          home = λ z. sym e ∙ ends-last (f .bay i) (getD goals k 0) (drop (k + 1) goals) left z;
         }
 
     module _ (end : Bool) (same : end ≡ final (getD goals k 0) (drop (k + 1) goals)) (P : ℕ → ℕ) (B : Bounds f (getD goals k 0) end at P) where
@@ -67,9 +67,9 @@ module _ (f : Field) (i from : ℕ) (goals made : List ℕ) (at len k : ℕ) (L 
           let w′ = subst (λ (b : Bool). Walked f (getD goals k 0) b P at len made after place) same w in
           record {
             led = subst (λ (x : List ℕ). Led f i from goals x (getD goals k 0) (drop (k + 1) goals)) (sym (w′ .written))
-              (led-leg f i from goals (take len made) at (getD goals k 0) (drop (k + 1) goals) P here left bound (w′ .walk) (w′ .falls));
+                (led-leg f i from goals (take len made) at (getD goals k 0) (drop (k + 1) goals) P here left bound (w′ .walk) (w′ .falls));
             ends = ends-rest (f .bay i) (getD goals k 0) (drop (k + 1) goals) left;
-            home = λ z. ends-last (f .bay i) (getD goals k 0) (drop (k + 1) goals) left z
+            home = λ z. ends-last (f .bay i) (getD goals k 0) (drop (k + 1) goals) left z;
           }
 
       -- it is too far

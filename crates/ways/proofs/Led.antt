@@ -36,9 +36,9 @@ ends-home b g [] e t = e
 ends-home b g (h ∷ hs) e t =
     ⊎-elim
     (λ (q : g ≡ h).
-      let n : past g hs ≡ [] = sym (past-here g hs) ∙ (ap (λ (x : ℕ). past g (x ∷ hs)) q ∙ empty-nil (past g (h ∷ hs)) t) in
-      let t′ : final h hs ≡ true = subst (λ (x : ℕ). final x hs ≡ true) q (subst (λ (x : List ℕ). is-empty x ≡ true) (sym n) refl) in
-      q ∙ ends-home b h hs e t′)
+    let n : past g hs ≡ [] = sym (past-here g hs) ∙ (ap (λ (x : ℕ). past g (x ∷ hs)) q ∙ empty-nil (past g (h ∷ hs)) t) in
+    let t′ : final h hs ≡ true = subst (λ (x : ℕ). final x hs ≡ true) q (subst (λ (x : List ℕ). is-empty x ≡ true) (sym n) refl) in
+    q ∙ ends-home b h hs e t′)
     (λ ne. absurd (cons-nil h hs (sym (past-other g h hs ne) ∙ empty-nil (past g (h ∷ hs)) t)))
     (cases-eq g h)
 
@@ -56,7 +56,7 @@ best-drop f i c gs w b =
     record {
       good = good-put f i c gs w (b .good);
       least = λ r h. b .least r (good-drop f i c gs r h);
-      first = λ r h l. b .first r (good-drop f i c gs r h) l
+      first = λ r h l. b .first r (good-drop f i c gs r h) l;
     }
 
 best-put : (f : Field) (i c : ℕ) (gs w : List ℕ) → Best f i c (c ∷ gs) w → Best f i c gs w
@@ -64,7 +64,7 @@ best-put f i c gs w b =
     record {
       good = good-drop f i c gs w (b .good);
       least = λ r h. b .least r (good-put f i c gs r h);
-      first = λ r h l. b .first r (good-put f i c gs r h) l
+      first = λ r h l. b .first r (good-put f i c gs r h) l;
     }
 
 module _ (f : Field) (i c₀ : ℕ) (gs₀ : List ℕ) where
@@ -76,7 +76,7 @@ module _ (f : Field) (i c₀ : ℕ) (gs₀ : List ℕ) where
   led-met w c gs l =
       record {
         best = λ v b. l .best v (best-drop f i c gs v b);
-        left = λ r h. let s = l .left r h in (s .0, good-drop f i c gs (s .0) (s .1), s .2)
+        left = λ r h. let s = l .left r h in (s .0, good-drop f i c gs (s .0) (s .1), s .2);
       }
 
   -- a leg more
@@ -86,11 +86,11 @@ module _ (f : Field) (i c₀ : ℕ) (gs₀ : List ℕ) where
   led-leg w c g gs P l e B u F =
       record {
         best = λ v b. subst (λ (x : List ℕ). Best f i c₀ gs₀ x) (sym (append-assoc w u v))
-          (l .best (u ++ v) (leg-best f i g gs c P B (ends-home (f .bay i) g gs e) v (best-drop f i g gs v b) u F));
+            (l .best (u ++ v) (leg-best f i g gs c P B (ends-home (f .bay i) g gs e) v (best-drop f i g gs v b) u F));
         left = λ r h.
-          let s = l .left r h in
-          let a = arrives f i g gs c P B (s .0) c (inl refl) (s .1) in
-          (a .0, good-drop f i g gs (a .0) (a .1), omega (arith, s .2, a .2, length-append w u, falls-length f g (final g gs) P (B .at-goal) u c F))
+            let s = l .left r h in
+            let a = arrives f i g gs c P B (s .0) c (inl refl) (s .1) in
+            (a .0, good-drop f i g gs (a .0) (a .1), omega (arith, s .2, a .2, length-append w u, falls-length f g (final g gs) P (B .at-goal) u c F));
       }
 
   -- a leg that leads too far: none is short enough
@@ -109,7 +109,7 @@ module _ (f : Field) (i c₀ : ℕ) (gs₀ : List ℕ) where
       (l .best [] (record {
         good = good-none f i c e;
         least = λ r h. omega arith;
-        first = λ r h n. inl (nil-from-length r n)
+        first = λ r h n. inl (nil-from-length r n);
       }))
 
 -- what is good for the row with the bay at its end is what leads through the row
@@ -124,10 +124,10 @@ shortest-from-best f i c row w b l =
       through = record {
         route = b .good .route;
         short = l;
-        visits = visits-front row (f .bay i ∷ []) (c ∷ w) (met-visits c w (row ++ (f .bay i ∷ [])) (b .good .met))
+        visits = visits-front row (f .bay i ∷ []) (c ∷ w) (met-visits c w (row ++ (f .bay i ∷ [])) (b .good .met));
       };
       least = λ s t. b .least s (through-good f i c row s t);
-      first = λ s t n ne. ⊎-elim (λ q. absurd (ne q)) (λ h. h) (b .first s (through-good f i c row s t) n)
+      first = λ s t n ne. ⊎-elim (λ q. absurd (ne q)) (λ h. h) (b .first s (through-good f i c row s t) n);
     }
 
 pub nowhere-from-far :

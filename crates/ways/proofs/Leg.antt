@@ -55,6 +55,7 @@ module _ (f : Field) (i g : ℕ) (gs : List ℕ) (c₀ : ℕ) (P : ℕ → ℕ) 
     where
       here : (r : List ℕ) (c : ℕ) → c ≡ g → Good f i c (g ∷ gs) r → (s : List ℕ) × Good f i g (g ∷ gs) s × (P c + length s ≤ length r)
       here r c e h = (r, subst (λ (x : ℕ). Good f i x (g ∷ gs) r) e h, omega (arith, B .at-goal, ap P e))
+
       go :
           (r : List ℕ) (c : ℕ) → (c ≡ c₀) ⊎ (enter f g (final g gs) c ≡ true) → Good f i c (g ∷ gs) r → (c ≡ g → ⊥)
           → (s : List ℕ) × Good f i g (g ∷ gs) s × (P c + length s ≤ length r)
@@ -62,7 +63,7 @@ module _ (f : Field) (i g : ℕ) (gs : List ℕ) (c₀ : ℕ) (P : ℕ → ℕ) 
       go (d ∷ ds) c seen h ne =
           let n = good-next f i c g d gs ds ne h in
           let t : (s : List ℕ) × Good f i g (g ∷ gs) s × (P d + length s ≤ length ds) =
-            ⊎-elim (λ e. here ds d e (n .2)) (λ ne′. go ds d (inr (n .1)) (n .2) ne′) (cases-eq d g) in
+          ⊎-elim (λ e. here ds d e (n .2)) (λ ne′. go ds d (inr (n .1)) (n .2) ne′) (cases-eq d g) in
           (t .0, t .1, omega (arith, t .2, B .lower c d seen (n .0) (n .1)))
 
   -- the best from g, with the walk before it, is the best from c
@@ -100,16 +101,16 @@ module _ (f : Field) (i g : ℕ) (gs : List ℕ) (c₀ : ℕ) (P : ℕ → ℕ) 
         let dn : suc (P e) ≤ P c = omega (arith, a .2) in
         ⊎-elim
         (λ (t : turn f c d ≡ turn f c e).
-          let same : d ≡ e = turn-same f c d e (w .0 .next) (n .0) t in
-          let ih = falls-first ds d es (inr (w .0 .enters)) (w .1) (subst (λ (x : ℕ). Good f i x (g ∷ gs) es) (sym same) (n .2)) (omega (arith, w .0 .one)) in
-          ⊎-elim
-          (λ q. inl (ap (λ (x : ℕ). x ∷ es) (sym same) ∙ ap (λ (x : List ℕ). d ∷ x) q))
-          (λ b. inr (subst (λ (x : ℕ). before f c (d ∷ (ds ++ v)) (x ∷ es) ≡ true) same (before-later f c d (ds ++ v) es b)))
-          ih)
+        let same : d ≡ e = turn-same f c d e (w .0 .next) (n .0) t in
+        let ih = falls-first ds d es (inr (w .0 .enters)) (w .1) (subst (λ (x : ℕ). Good f i x (g ∷ gs) es) (sym same) (n .2)) (omega (arith, w .0 .one)) in
+        ⊎-elim
+        (λ q. inl (ap (λ (x : ℕ). x ∷ es) (sym same) ∙ ap (λ (x : List ℕ). d ∷ x) q))
+        (λ b. inr (subst (λ (x : ℕ). before f c (d ∷ (ds ++ v)) (x ∷ es) ≡ true) same (before-later f c d (ds ++ v) es b)))
+        ih)
         (λ o. ⊎-elim
-          (λ lt. inr (before-now f c d e (ds ++ v) es lt))
-          (λ gt. let bad : P c ≤ P e = w .0 .first e (n .0) (n .1) gt in absurd (omega arith))
-          o)
+        (λ lt. inr (before-now f c d e (ds ++ v) es lt))
+        (λ gt. let bad : P c ≤ P e = w .0 .first e (n .0) (n .1) gt in absurd (omega arith))
+        o)
         (cases-order (turn f c d) (turn f c e))
 
     pub leg-best : (w : List ℕ) → Falls f g (final g gs) P c₀ w → Best f i c₀ (g ∷ gs) (w ++ v)
@@ -118,5 +119,5 @@ module _ (f : Field) (i g : ℕ) (gs : List ℕ) (c₀ : ℕ) (P : ℕ → ℕ) 
         record {
           good = falls-good w c₀ h;
           least = λ r k. let a = arrives r c₀ (inl refl) k in omega (arith, a .2, V .least (a .0) (a .1));
-          first = λ r k l. falls-first w c₀ r (inl refl) h k (l ∙ n)
+          first = λ r k l. falls-first w c₀ r (inl refl) h k (l ∙ n);
         }

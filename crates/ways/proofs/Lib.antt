@@ -7,6 +7,7 @@ pub mod Spread
 pub mod Distances
 pub mod Leg
 pub mod Led
+pub mod Only
 pub mod Expand
 pub mod Prepared
 pub mod Ground

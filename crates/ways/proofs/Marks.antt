@@ -69,7 +69,7 @@ open-more f table j b e l m =
     marks-set (open-to f j) (open-to f (j + 1)) table b 65534 l
     (let z : is-bay-to f (j + 1) b ≡ true = bay-more f j b ∙ or-left (eqb (f .bay j) b) (is-bay-to f j b) (eq-eqb (f .bay j) b (sym e)) in grind (arith, tells))
     (λ x ne. let z : is-bay-to f (j + 1) x ≡ is-bay-to f j x = bay-more f j x ∙ ap (λ (y : Bool). y || is-bay-to f j x) (ne-eqb (f .bay j) x (λ q. ne (sym q ∙ sym e))) in
-      ap (λ (y : Bool). free-square f x && not y) z)
+    ap (λ (y : Bool). free-square f x && not y) z)
     m
 
 pub open-all : (f : Field) (table : List ℕ) (j : ℕ) → j ≡ f .shuttles → Marks (open-to f j) table → Ground f table

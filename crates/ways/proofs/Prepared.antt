@@ -33,9 +33,9 @@ module _ (f : Field) (g : ℕ) (end : Bool) (s : ℕ) (table : List ℕ) (P : Pr
       (λ x ne. ⊎-elim (λ m. omega (arith, m .1)) (λ m. omega (arith, m .1)) (P .marks x ne))
       (λ x v. ⊎-elim (λ e. inl e) (λ ne. ⊎-elim (λ m. inr (m .1)) (λ m. absurd (m .0 v)) (P .marks x ne)) (cases-eq x g))
       (λ x z. ⊎-elim
-        (λ (e : x ≡ g). let y : distance-in table x ≡ 0 = ap (distance-in table) e ∙ P .goal in absurd (omega arith))
-        (λ ne. ⊎-elim (λ m. m .0) (λ m. absurd (omega (arith, m .1))) (P .marks x ne))
-        (cases-eq x g))
+      (λ (e : x ≡ g). let y : distance-in table x ≡ 0 = ap (distance-in table) e ∙ P .goal in absurd (omega arith))
+      (λ ne. ⊎-elim (λ m. m .0) (λ m. absurd (omega (arith, m .1))) (P .marks x ne))
+      (cases-eq x g))
 
   -- the goal is known, so that at least one place of the queue is left over
   pub prepared-room : length table ≡ 4096 → g < 4096 → 1 + unknown table ≤ 4096
@@ -54,12 +54,12 @@ spread-distances f g end s table queue head tail S over =
     record {
       goal = S .goal;
       lower = ⊎-elim
-        (λ k. spread-end (Hop f g end s) (Seen f g end s) (hop-seen f g end s) g (distance-in table) (λ j. getD queue j 0) head tail s S (omega arith) (inr k))
-        (λ k. spread-end (Hop f g end s) (Seen f g end s) (hop-seen f g end s) g (distance-in table) (λ j. getD queue j 0) head tail s S (omega arith)
+          (λ k. spread-end (Hop f g end s) (Seen f g end s) (hop-seen f g end s) g (distance-in table) (λ j. getD queue j 0) head tail s S (omega arith) (inr k))
+          (λ k. spread-end (Hop f g end s) (Seen f g end s) (hop-seen f g end s) g (distance-in table) (λ j. getD queue j 0) head tail s S (omega arith)
           (inl (⊎-elim (λ l. omega (arith, S .order)) (λ ne. absurd (ne k)) over)))
-        (S .marked s (inl refl));
+          (S .marked s (inl refl));
       falls = S .falls;
-      seen = S .seen
+      seen = S .seen;
     }
 
 -- a goal that may not be entered is not reached: any number bounds the leg
@@ -68,10 +68,10 @@ shut-bound f g end s n ne =
     record {
       at-goal = cond-true (eqb g g) 0 n (eq-eqb g g refl);
       lower = λ c d v b e.
-        let off : eqb d g ≡ false = ne-eqb d g (λ q. ne (subst (λ (x : ℕ). enter f g end x ≡ true) q e)) in
-        let far : cond (eqb d g) 0 n ≡ n = cond-false (eqb d g) 0 n off in
-        ⊎-elim
-        (λ (q : c ≡ g). omega (arith, far, cond-true (eqb c g) 0 n (eq-eqb c g q)))
-        (λ q. omega (arith, far, cond-false (eqb c g) 0 n (ne-eqb c g q)))
-        (cases-eq c g)
+          let off : eqb d g ≡ false = ne-eqb d g (λ q. ne (subst (λ (x : ℕ). enter f g end x ≡ true) q e)) in
+          let far : cond (eqb d g) 0 n ≡ n = cond-false (eqb d g) 0 n off in
+          ⊎-elim
+          (λ (q : c ≡ g). omega (arith, far, cond-true (eqb c g) 0 n (eq-eqb c g q)))
+          (λ q. omega (arith, far, cond-false (eqb c g) 0 n (ne-eqb c g q)))
+          (cases-eq c g);
     }

@@ -43,7 +43,7 @@ module _ (Hop : ℕ → ℕ → Type 0) (Seen : ℕ → Type 0) (hop-seen : (c d
         seen = λ x l. subst Seen (sym (only x l)) s;
         unseen = u;
         marked = λ x p. ⊎-elim (λ y. inl (let z = ap T y ∙ e in omega arith)) (λ z. inr z) (m x p);
-        goal = e
+        goal = e;
       }
 
   -- the first of the queue is done once none that may go to it is unknown
@@ -51,24 +51,24 @@ module _ (Hop : ℕ → ℕ → Type 0) (Seen : ℕ → Type 0) (hop-seen : (c d
       (T Q : ℕ → ℕ) (h t : ℕ) → Spread T Q h t → h < t → ((c : ℕ) → Hop c (Q h) → T c ≡ 65535 → ⊥) → Spread T Q (suc h) t
   spread-done T Q h t S l all =
       let done : Done T (Q h) =
-        λ c p. ⊎-elim (λ k. S .near l c k) (λ far. absurd (all c p far)) (S .marked c (hop-seen c (Q h) p)) in
+      λ c p. ⊎-elim (λ k. S .near l c k) (λ far. absurd (all c p far)) (S .marked c (hop-seen c (Q h) p)) in
       record {
         order = l;
         small = S .small;
         sorted = λ j k a b m. S .sorted j k (omega arith) b m;
         near = λ l′ x k. let a = S .near l x k in let b = S .sorted h (suc h) (omega arith) (omega arith) l′ in omega arith;
         queued = λ x k. ⊎-elim
-          (λ d. inl d)
-          (λ q. ⊎-elim
+            (λ d. inl d)
+            (λ q. ⊎-elim
             (λ (e : h ≡ q .0). inl (subst (Done T) (ap Q e ∙ q .3) done))
             (λ ne. inr (q .0, omega (arith, q .1), q .2, q .3))
             (cases-eq h (q .0)))
-          (S .queued x k);
+            (S .queued x k);
         falls = S .falls;
         seen = S .seen;
         unseen = S .unseen;
         marked = S .marked;
-        goal = S .goal
+        goal = S .goal;
       }
 
   -- a square that is not known yet gets its distance, and is put at the end of the queue
@@ -103,41 +103,41 @@ module _ (Hop : ℕ → ℕ → Type 0) (Seen : ℕ → Type 0) (hop-seen : (c d
           order = omega arith;
           small = λ j k. ⊎-elim (λ e. omega (arith, new j e)) (λ ne. let a : j < t = omega arith in omega (arith, old j a, S .small j a)) (cases-eq j t);
           sorted = λ j k a b m. ⊎-elim
-            (λ (e : k ≡ t). ⊎-elim
+              (λ (e : k ≡ t). ⊎-elim
               (λ (e′ : j ≡ t). omega (arith, new j e′, new k e))
               (λ ne. let w : j < t = omega arith in let s : T (Q j) ≤ j = S .small j w in omega (arith, old j w, new k e, S .near l (Q j) (omega arith)))
               (cases-eq j t))
-            (λ ne. let w : k < t = omega arith in let v : j < t = omega arith in omega (arith, old j v, old k w, S .sorted j k a b w))
-            (cases-eq k t);
+              (λ ne. let w : k < t = omega arith in let v : j < t = omega arith in omega (arith, old j v, old k w, S .sorted j k a b w))
+              (cases-eq k t);
           near = λ _ x k. ⊎-elim
-            (λ (e : x ≡ y). let z : T′ x ≡ suc (T (Q h)) = ap T′ e ∙ put in omega arith)
-            (λ p. omega (arith, kept x (p .0), S .near l x (p .1)))
-            (known x k);
+              (λ (e : x ≡ y). let z : T′ x ≡ suc (T (Q h)) = ap T′ e ∙ put in omega arith)
+              (λ p. omega (arith, kept x (p .0), S .near l x (p .1)))
+              (known x k);
           queued = λ x k. ⊎-elim
-            (λ (e : x ≡ y). inr (t, omega arith, omega arith, at-end ∙ sym e))
-            (λ p. ⊎-elim
+              (λ (e : x ≡ y). inr (t, omega arith, omega arith, at-end ∙ sym e))
+              (λ p. ⊎-elim
               (λ d. inl (done-kept x (p .1) d))
               (λ q. inr (q .0, q .1, (let w = q .2 in omega arith), stay (q .0) (λ e. let w = q .2 in omega arith) ∙ q .3))
               (S .queued x (p .1)))
-            (known x k);
+              (known x k);
           falls = λ x k. ⊎-elim
-            (λ (e : x ≡ y). inr (Q h, subst (λ (z : ℕ). Hop z (Q h)) (sym e) hop, ap T′ e ∙ (put ∙ ap suc (sym (other (Q h) (omega arith))))))
-            (λ p. ⊎-elim
+              (λ (e : x ≡ y). inr (Q h, subst (λ (z : ℕ). Hop z (Q h)) (sym e) hop, ap T′ e ∙ (put ∙ ap suc (sym (other (Q h) (omega arith))))))
+              (λ p. ⊎-elim
               (λ e. inl e)
               (λ q. let w : T x ≡ suc (T (q .0)) = q .2 in let u : T x < 65534 = p .1 in
-                inr (q .0, q .1, kept x (p .0) ∙ (w ∙ ap suc (sym (other (q .0) (omega arith))))))
+              inr (q .0, q .1, kept x (p .0) ∙ (w ∙ ap suc (sym (other (q .0) (omega arith))))))
               (S .falls x (p .1)))
-            (known x k);
+              (known x k);
           seen = λ x k. ⊎-elim (λ e. subst Seen (sym e) (hop-seen y (Q h) hop)) (λ p. S .seen x (p .1)) (known x k);
           unseen = λ x k. ⊎-elim
-            (λ (e : x ≡ y). let z : T′ x ≡ suc (T (Q h)) = ap T′ e ∙ put in absurd (omega arith))
-            (λ ne. S .unseen x (sym (kept x ne) ∙ k))
-            (cases-eq x y);
+              (λ (e : x ≡ y). let z : T′ x ≡ suc (T (Q h)) = ap T′ e ∙ put in absurd (omega arith))
+              (λ ne. S .unseen x (sym (kept x ne) ∙ k))
+              (cases-eq x y);
           marked = λ x s. ⊎-elim
-            (λ (e : x ≡ y). inl (let z : T′ x ≡ suc (T (Q h)) = ap T′ e ∙ put in omega arith))
-            (λ ne. ⊎-elim (λ k. inl (let z = kept x ne in omega arith)) (λ k. inr (kept x ne ∙ k)) (S .marked x s))
-            (cases-eq x y);
-          goal = let z : T g ≡ 0 = S .goal in other g (omega arith) ∙ z
+              (λ (e : x ≡ y). inl (let z : T′ x ≡ suc (T (Q h)) = ap T′ e ∙ put in omega arith))
+              (λ ne. ⊎-elim (λ k. inl (let z = kept x ne in omega arith)) (λ k. inr (kept x ne ∙ k)) (S .marked x s))
+              (cases-eq x y);
+          goal = let z : T g ≡ 0 = S .goal in other g (omega arith) ∙ z;
         }
 
   -- at the end, or once the distance of the start is known, no step to a square that is nearer than one before the start leads down by more than one
@@ -148,7 +148,7 @@ module _ (Hop : ℕ → ℕ → Type 0) (Seen : ℕ → Type 0) (hop-seen : (c d
       ⊎-elim
       (λ z. z c p)
       (λ q. let e : T (Q (q .0)) ≡ T d = ap T (q .3) in
-        let a : h ≤ q .0 = q .1 in let b : q .0 < t = q .2 in
-        let up : T (Q h) ≤ T (Q (q .0)) = S .sorted h (q .0) (omega arith) a b in
-        ⊎-elim (λ z. absurd (omega arith)) (λ k. let n = S .near (omega arith) s k in absurd (omega arith)) over)
+      let a : h ≤ q .0 = q .1 in let b : q .0 < t = q .2 in
+      let up : T (Q h) ≤ T (Q (q .0)) = S .sorted h (q .0) (omega arith) a b in
+      ⊎-elim (λ z. absurd (omega arith)) (λ k. let n = S .near (omega arith) s k in absurd (omega arith)) over)
       (S .queued d (omega arith))

@@ -38,7 +38,7 @@ module _ (f : Field) (g : ℕ) (end : Bool) (P : ℕ → ℕ) (s len : ℕ) (bef
         on = λ v h. subst (λ (x : List ℕ). Falls f g end P s x) (sym (append-assoc (w .walked) (d ∷ []) v)) (w .on (d ∷ v) (n, h));
         place-is = omega (arith, w .place-is, length-push (w .walked) d);
         fallen = omega (arith, w .fallen, n .one, length-push (w .walked) d);
-        written = take-more-set made place d l ∙ (ap (λ (x : List ℕ). x ++ (d ∷ [])) (w .written) ∙ append-assoc (take len before) (w .walked) (d ∷ []))
+        written = take-more-set made place d l ∙ (ap (λ (x : List ℕ). x ++ (d ∷ [])) (w .written) ∙ append-assoc (take len before) (w .walked) (d ∷ []));
       }
 
   pub walk-end :
@@ -48,5 +48,5 @@ module _ (f : Field) (g : ℕ) (end : Bool) (P : ℕ → ℕ) (s len : ℕ) (bef
         walk = w .walked;
         falls = subst (λ (x : List ℕ). Falls f g end P s x) (append-nil (w .walked)) (w .on [] e);
         place-is = w .place-is;
-        written = w .written
+        written = w .written;
       }

@@ -4,3 +4,4 @@ pub mod Around
 pub mod Order
 pub mod Shortest
 pub mod Asked
+pub mod Law

@@ -26,7 +26,7 @@ front row self home n e l few =
     let rest = drop (n + 1) (replicate 9 home) in
     let m : n + 1 - 0 ≡ n + 1 = omega arith in
     let whole : self ++ postOf 0 (n - 0) (replicate 9 home) ≡ (row ++ (home ∷ [])) ++ rest =
-      ap (λ (x : List ℕ). x ++ postOf 0 (n - 0) (replicate 9 home)) e ∙ (ap (λ (x : List ℕ). row ++ x) (cut home n few) ∙ sym (append-assoc row (home ∷ []) rest)) in
+    ap (λ (x : List ℕ). x ++ postOf 0 (n - 0) (replicate 9 home)) e ∙ (ap (λ (x : List ℕ). row ++ x) (cut home n few) ∙ sym (append-assoc row (home ∷ []) rest)) in
     ap (λ (k : ℕ). take k (self ++ postOf 0 (n - 0) (replicate 9 home))) m
     ∙ (ap (λ (x : List ℕ). take (n + 1) x) whole ∙ take-at (row ++ (home ∷ [])) rest (n + 1) (length-push row home ∙ ap (λ (x : ℕ). x + 1) (sym l)))
 
@@ -59,7 +59,7 @@ lead-requires c κs =
       long = c .pre .long;
       start = c .pre .start;
       some = subst (λ (x : List ℕ). 0 < length x) (sym q) (omega (arith, length-push row home));
-      inside = subst (λ (x : List ℕ). (k : ℕ) → k < length x → getD x k 0 < size) (sym q) (inside row home size (c .pre .end) (c .pre .inside))
+      inside = subst (λ (x : List ℕ). (k : ℕ) → k < length x → getD x k 0 < size) (sym q) (inside row home size (c .pre .end) (c .pre .inside));
     }
 
 pub returns : need.returns

@@ -30,20 +30,21 @@ copied k self made before e =
     let m : k - 0 ≡ k = omega arith in
     ap (λ (x : List ℕ). x ++ postOf 0 (k - 0) before) (e ∙ ap (λ (x : ℕ). take x made) m) ∙ ap (λ (x : List ℕ). take k made ++ x) (post-is 0 k before (omega arith))
 
+-- the answer that it is turned away
+refused : (m n : ℕ) (before : List ℕ) → n ≡ m → 0 < m → (m ≡ n) × (0 < n) × (before ≡ before)
+refused m n before e l = (sym e, omega arith, refl)
+
 pub returns-then-not-is-field : need.returns-then-not-is-field
 returns-then-not-is-field c =
-    let n = refused-field (c .args .across) (c .args .down) (c .args .walls .now) (c .args .bays .now) (c .args .shuttle) (c .args .from) (c .args .row .now) (length (c .args .route .now)) (sym (c .if-not-is-field .ensures tt)) in
-    (sym n, omega arith, refl)
+    refused 1 _ (c .args .route .now) (refused-field _ _ _ _ _ _ _ _ (sym (c .if-not-is-field .ensures tt))) (omega arith)
 
 pub returns-then-shuttle-bays : need.returns-then-shuttle-bays
 returns-then-shuttle-bays c =
-    let n = refused-shuttle (c .args .across) (c .args .down) (c .args .walls .now) (c .args .bays .now) (c .args .shuttle) (c .args .from) (c .args .row .now) (length (c .args .route .now)) (sym (c .if-not-is-field .ensures tt)) (c .if-shuttle-bays .taken) in
-    (sym n, omega arith, refl)
+    refused 3 _ (c .args .route .now) (refused-shuttle _ _ _ _ _ _ _ _ (sym (c .if-not-is-field .ensures tt)) (c .if-shuttle-bays .taken)) (omega arith)
 
 pub returns-then-not-is-asked : need.returns-then-not-is-asked
 returns-then-not-is-asked c =
-    let n = refused-asked (c .args .across) (c .args .down) (c .args .walls .now) (c .args .bays .now) (c .args .shuttle) (c .args .from) (c .args .row .now) (length (c .args .route .now)) (sym (c .if-not-is-field .ensures tt)) (c .if-shuttle-bays .left) (sym (c .if-not-is-asked .ensures tt)) in
-    (sym n, omega arith, refl)
+    refused 5 _ (c .args .route .now) (refused-asked _ _ _ _ _ _ _ _ (sym (c .if-not-is-field .ensures tt)) (c .if-shuttle-bays .left) (sym (c .if-not-is-asked .ensures tt))) (omega arith)
 
 pub through-requires : need.through-requires
 unfolding field-in
@@ -55,7 +56,7 @@ through-requires c κs =
       few = a .few;
       start = free-below f (c .args .from) (a .free);
       end = free-below f (getD (c .args .bays .now) (c .args .shuttle) 0) (bay-free f (c .args .shuttle) (c .if-shuttle-bays .left));
-      inside = a .inside
+      inside = a .inside;
     }
 
 pub part-copy-from-slice-end : need.part-copy-from-slice-end

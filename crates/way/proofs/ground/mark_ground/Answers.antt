@@ -33,11 +33,11 @@ index-table-square c =
 pub loop-square-again : need.loop-square-again
 loop-square-again c =
     elim (c .if-is-free .came) [
-      then-is-free w ↦
-        simp (w .table-is)
-        (free-yes _ _ _ (omega (arith, c .loop-square-test .taken, sizes (c .args .field .now) .walls-most, c .loop-square .kept .table, c .fill .ensures .len, c .pre))
+      | then-is-free w ↦
+          simp (w .table-is)
+          (free-yes _ _ _ (omega (arith, c .loop-square-test .taken, sizes (c .args .field .now) .walls-most, c .loop-square .kept .table, c .fill .ensures .len, c .pre))
           (sym (w .if-is-free .ensures tt)) (c .loop-square .inv))
-    | else-is-free w ↦ simp (w .table-is) (free-not _ _ _ (sym (w .if-is-free .ensures tt)) (c .loop-square .inv))
+      | else-is-free w ↦ simp (w .table-is) (free-not _ _ _ (sym (w .if-is-free .ensures tt)) (c .loop-square .inv))
     ]
 
 pub loop-bay-holds : need.loop-bay-holds

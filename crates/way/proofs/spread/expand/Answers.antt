@@ -12,7 +12,7 @@ use Rattle.ways.proofs.Around.{around-inside}
 use Rattle.ways.proofs.Distances.{enter-inside}
 use Rattle.ways.proofs.Expand.{Expanding, distance-in, unknown, expand-start, expand-pass, expand-put, expand-done, put-room, put-kept}
 use Rattle.way.specs.declared.leg.Leg.{Leg}
-use Rattle.way.specs.Table.{Spreads}
+use Rattle.way.specs.Table.{Waiting}
 use Rattle.way.proofs.Size.{sizes}
 use Rattle.way.proofs.spread.expand.Needs as need
 use Rattle.way.proofs.spread.expand.Needs.{then-distances-d, else-distances-d}
@@ -21,11 +21,9 @@ abbrev Expands : Leg → ℕ → List ℕ → List ℕ → ℕ → ℕ → ℕ �
 Expands l = Expanding (field-of (l .field)) (l .goal) (l .last) (l .start)
 
 -- what stands at the front of the queue
-begun :
-    (l : Leg) (ds qs : List ℕ) (head tail : ℕ) → (length ds ≡ 4096) × (length qs ≡ 4096) → head < tail → tail + unknown ds ≤ 4096
-    → distance-in ds (l .start) ≡ 65535 → Spreads l ds qs head tail → Expands l (getD qs head 0) ds qs head tail 0
-begun l ds qs head tail long left room far s =
-    expand-start (field-of (l .field)) (l .goal) (l .last) (l .start) ds qs head tail (long .0) (long .1) left room s far
+begun : (l : Leg) (ds qs : List ℕ) (head tail : ℕ) → Waiting l ds qs head tail → Expands l (getD qs head 0) ds qs head tail 0
+begun l ds qs head tail w =
+    expand-start (field-of (l .field)) (l .goal) (l .last) (l .start) ds qs head tail (w .table-long) (w .queue-long) (w .left) (w .room) (w .spreading) (w .far)
 
 -- it is a square of the field, and its distance is small
 inside : (l : Leg) (square head tail j : ℕ) (ds qs : List ℕ) → Expands l square ds qs head tail j → square < l .field .across * l .field .down
@@ -72,29 +70,32 @@ given-it l square head tail j next ds qs items e lj is z =
     let q : getD (around (l .field .across) (l .field .across * l .field .down) square) j 0 ≡ getD items j 0 = ap (λ (x : List ℕ). getD x j 0) (sym is) in
     let far : distance-in ds (getD items j 0) ≡ 65535 = getD-default ds (getD items j 0) 65534 0 long ∙ z in
     let w = sizes (l .field) .wide in
-    let m = sizes (l .field) .squares-most in
-    (put-room _ _ _ _ _ _ _ _ _ _ (e .0) w m lj (getD items j 0) q far
-    , (expand-put _ _ _ _ _ _ _ _ _ _ (e .0) w m lj (getD items j 0) q far next (e .1)
-    , e .1 ∙ ap suc (sym (put-kept _ _ _ _ _ _ _ _ _ _ (e .0) w m lj (getD items j 0) q far next (e .1)))))
+    let m = sizes (l .field) .squares-most in (
+      put-room _ _ _ _ _ _ _ _ _ _ (e .0) w m lj (getD items j 0) q far,
+      (
+        expand-put _ _ _ _ _ _ _ _ _ _ (e .0) w m lj (getD items j 0) q far next (e .1),
+        e .1 ∙ ap suc (sym (put-kept _ _ _ _ _ _ _ _ _ _ (e .0) w m lj (getD items j 0) q far next (e .1))),
+      ),
+    )
 
 pub index-distances-square : need.index-distances-square
 index-distances-square c =
-    let e = begun (c .args .leg .now) (c .args .distances .now) (c .args .queue .now) (c .args .head) (c .args .tail) (c .pre .long) (c .pre .left) (c .pre .room) (c .pre .far) (c .pre .spreading) in
-    omega (arith, inside (c .args .leg .now) _ _ _ _ _ _ e, sizes (c .args .leg .now .field) .squares-most, c .pre .long .0)
+    let e = begun (c .args .leg .now) _ _ _ _ (c .pre) in
+    omega (arith, inside (c .args .leg .now) _ _ _ _ _ _ e, sizes (c .args .leg .now .field) .squares-most, c .pre .table-long)
 
 pub add-next : need.add-next
 add-next c =
-    let e = begun (c .args .leg .now) (c .args .distances .now) (c .args .queue .now) (c .args .head) (c .args .tail) (c .pre .long) (c .pre .left) (c .pre .room) (c .pre .far) (c .pre .spreading) in
+    let e = begun (c .args .leg .now) _ _ _ _ (c .pre) in
     omega (arith, small (c .args .leg .now) _ _ _ _ _ _ e, read (c .args .leg .now) _ _ _ _ _ _ e)
 
 pub around-d-items-requires : need.around-d-items-requires
 around-d-items-requires c κs =
-    let e = begun (c .args .leg .now) (c .args .distances .now) (c .args .queue .now) (c .args .head) (c .args .tail) (c .pre .long) (c .pre .left) (c .pre .room) (c .pre .far) (c .pre .spreading) in
+    let e = begun (c .args .leg .now) _ _ _ _ (c .pre) in
     inside (c .args .leg .now) _ _ _ _ _ _ e
 
 pub loop-d-holds : need.loop-d-holds
 loop-d-holds c =
-    let e = begun (c .args .leg .now) (c .args .distances .now) (c .args .queue .now) (c .args .head) (c .args .tail) (c .pre .long) (c .pre .left) (c .pre .room) (c .pre .far) (c .pre .spreading) in
+    let e = begun (c .args .leg .now) _ _ _ _ (c .pre) in
     (e, omega (arith, read (c .args .leg .now) _ _ _ _ _ _ e))
 
 pub index-distances-d : need.index-distances-d
@@ -116,12 +117,12 @@ add-tail c = omega (arith, c .loop-d .inv .0 .room)
 pub loop-d-again : need.loop-d-again
 loop-d-again c =
     elim (c .if-distances-d .came) [
-      then-distances-d w ↦
-        simp (w .distances-is, w .queue-is, w .tail-is)
-        (given-it (c .args .leg .now) _ _ _ _ _ _ _ _ (c .loop-d .inv) (c .loop-d-test .taken) (c .around-d-items .ensures) (w .if-distances-d .taken) .1)
-    | else-distances-d w ↦
-        simp (w .distances-is, w .queue-is, w .tail-is)
-        (passed-over (c .args .leg .now) _ _ _ _ _ _ _ _ (c .loop-d .inv) (c .loop-d-test .taken) (c .around-d-items .ensures) (w .if-distances-d .left))
+      | then-distances-d w ↦
+          simp (w .distances-is, w .queue-is, w .tail-is)
+          (given-it (c .args .leg .now) _ _ _ _ _ _ _ _ (c .loop-d .inv) (c .loop-d-test .taken) (c .around-d-items .ensures) (w .if-distances-d .taken) .1)
+      | else-distances-d w ↦
+          simp (w .distances-is, w .queue-is, w .tail-is)
+          (passed-over (c .args .leg .now) _ _ _ _ _ _ _ _ (c .loop-d .inv) (c .loop-d-test .taken) (c .around-d-items .ensures) (w .if-distances-d .left))
     ]
 
 pub returns : need.returns
@@ -129,5 +130,5 @@ unfolding field-in
 returns c =
     record {
       room = c .loop-d .inv .0 .room;
-      spreading = expand-done _ _ _ _ _ _ _ _ _ _ (c .loop-d .inv .0) (sizes (c .args .leg .now .field) .wide) (c .args .leg .now .here) (omega arith)
+      spreading = expand-done _ _ _ _ _ _ _ _ _ _ (c .loop-d .inv .0) (sizes (c .args .leg .now .field) .wide) (c .args .leg .now .here) (omega arith);
     }

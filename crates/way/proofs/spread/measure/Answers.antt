@@ -18,19 +18,21 @@ use Rattle.way.proofs.Size.{start-below}
 use Rattle.way.proofs.spread.measure.Needs as need
 
 out-of-reach : (l : Leg) → Shut l → Bounded l 65535
-out-of-reach l s =
-    (λ x. cond (eqb x (l .goal)) 0 65535
-    , shut-bound (field-of (l .field)) (l .goal) (l .last) (l .start) 65535 s
-    , cond-false (eqb (l .start) (l .goal)) 0 65535 (ne-eqb (l .start) (l .goal) (l .apart)))
+out-of-reach l s = (
+  λ x. cond (eqb x (l .goal)) 0 65535,
+  shut-bound (field-of (l .field)) (l .goal) (l .last) (l .start) 65535 s,
+  cond-false (eqb (l .start) (l .goal)) 0 65535 (ne-eqb (l .start) (l .goal) (l .apart)),
+)
 
 read : (l : Leg) (ds : List ℕ) → length ds ≡ 4096 → distance-in ds (l .start) ≡ getD ds (l .start) 0
 read l ds long = getD-default ds (l .start) 65534 0 (omega (arith, start-below l))
 
 in-reach : (l : Leg) (ds : List ℕ) → length ds ≡ 4096 → Measured l ds → Bounded l (getD ds (l .start) 0)
-in-reach l ds long m =
-    (capped (distance-in ds) (l .start)
-    , distances-bound (field-of (l .field)) (l .goal) (l .last) (l .start) (distance-in ds) m
-    , omega (arith, read l ds long))
+in-reach l ds long m = (
+  capped (distance-in ds) (l .start),
+  distances-bound (field-of (l .field)) (l .goal) (l .last) (l .start) (distance-in ds) m,
+  omega (arith, read l ds long),
+)
 
 pub returns-then-not-prepare : need.returns-then-not-prepare
 returns-then-not-prepare c =
@@ -45,5 +47,5 @@ returns c =
     let long : length (c .spread .last .distances) ≡ 4096 = omega (arith, c .spread .kept .distances, c .prepare .kept .distances, c .pre .long .1) in
     record {
       bounded = in-reach (c .args .leg .now) (c .spread .last .distances) long (c .spread .ensures);
-      measured = λ l. (c .spread .ensures, read (c .args .leg .now) (c .spread .last .distances) long)
+      measured = λ l. (c .spread .ensures, read (c .args .leg .now) (c .spread .last .distances) long);
     }

@@ -59,12 +59,12 @@ returns c =
     let f = field-of (l .field) in
     let rd = read l gr (c .pre .long .0) in
     let same : enter f (l .goal) (l .last) (l .goal) ≡ c .if-ground-goal .open =
-      elim (c .if-ground-goal .came) [
-        then-ground-goal w ↦ entered (is-open f (l .goal)) (l .last) (free-square f (l .goal)) _ (ground-open f gr (l .goal) (c .pre .over) (sym rd ∙ w .if-ground-goal .taken)) (goal-open f (l .goal) (l .last)) ∙ (sym (eq-eqb _ _ (w .if-ground-goal .taken)) ∙ sym (w .open-is))
+    elim (c .if-ground-goal .came) [
+      | then-ground-goal w ↦ entered (is-open f (l .goal)) (l .last) (free-square f (l .goal)) _ (ground-open f gr (l .goal) (c .pre .over) (sym rd ∙ w .if-ground-goal .taken)) (goal-open f (l .goal) (l .last)) ∙ (sym (eq-eqb _ _ (w .if-ground-goal .taken)) ∙ sym (w .open-is))
       | else-ground-goal·then-leg w ↦ by-end (is-open f (l .goal)) (l .last) (free-square f (l .goal)) _ (ground-shut f gr (l .goal) (c .pre .over) (λ z. w .if-ground-goal .left (rd ∙ z))) (w .if-leg .taken) (goal-open f (l .goal) (l .last)) ∙ (sym (w .is-free .ensures) ∙ sym (w .open-is))
       | else-ground-goal·else-leg w ↦ not-at-all (is-open f (l .goal)) (l .last) (free-square f (l .goal)) _ (ground-shut f gr (l .goal) (c .pre .over) (λ z. w .if-ground-goal .left (rd ∙ z))) (w .if-leg .left) (goal-open f (l .goal) (l .last)) ∙ (sym (w .if-leg .left) ∙ sym (w .open-is))
-      ] in
+    ] in
     record {
       «open» = λ t. written l gr (c .copy-from-slice .last .self) (c .pre .long .0) (c .pre .over) (c .copy-from-slice .ensures .after) (same ∙ t);
-      shut = λ t e. both-ways (enter f (l .goal) (l .last) (l .goal)) (same ∙ t) e
+      shut = λ t e. both-ways (enter f (l .goal) (l .last) (l .goal)) (same ∙ t) e;
     }

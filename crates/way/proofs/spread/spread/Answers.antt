@@ -19,9 +19,10 @@ start-inside : (l : Leg) (ds : List ℕ) → length ds ≡ 4096 → l .start < l
 start-inside l ds long = omega (arith, start-below l)
 
 pub loop-head-holds : need.loop-head-holds
-loop-head-holds c =
-    (prepared-spread _ _ _ _ _ (c .pre .ready) _ (getD-set-same (c .args .queue .now) 0 (c .args .leg .now .goal) 0 (omega (arith, c .pre .long .1)))
-    , prepared-room _ _ _ _ _ (c .pre .ready) (c .pre .long .0) (goal-below (c .args .leg .now)))
+loop-head-holds c = (
+  prepared-spread _ _ _ _ _ (c .pre .ready) _ (getD-set-same (c .args .queue .now) 0 (c .args .leg .now .goal) 0 (omega (arith, c .pre .long .1))),
+  prepared-room _ _ _ _ _ (c .pre .ready) (c .pre .long .0) (goal-below (c .args .leg .now)),
+)
 
 pub index-distances-leg : need.index-distances-leg
 index-distances-leg c = start-inside (c .args .leg .now) (c .loop-head .distances) (c .loop-head .kept .distances ∙ c .pre .long .0)
@@ -30,11 +31,12 @@ pub expand-tail-requires : need.expand-tail-requires
 expand-tail-requires c κs =
     let long = c .loop-head .kept .distances ∙ c .pre .long .0 in
     record {
-      long = (long, c .loop-head .kept .queue ∙ (length-set (c .args .queue .now) 0 (c .args .leg .now .goal) ∙ c .pre .long .1));
+      table-long = long;
+      queue-long = c .loop-head .kept .queue ∙ (length-set (c .args .queue .now) 0 (c .args .leg .now .goal) ∙ c .pre .long .1);
       left = c .loop-head-test .taken;
       room = c .loop-head .inv .1;
       far = getD-default (c .loop-head .distances) (c .args .leg .now .start) 65534 0 (start-inside (c .args .leg .now) (c .loop-head .distances) long) ∙ c .if-distances-leg .taken;
-      spreading = c .loop-head .inv .0
+      spreading = c .loop-head .inv .0;
     }
 
 pub loop-head-again : need.loop-head-again

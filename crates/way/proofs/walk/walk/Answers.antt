@@ -22,12 +22,13 @@ index-made-place c =
 
 pub loop-square-again : need.loop-square-again
 loop-square-again c =
-    let w = c .loop-square .inv .0 in
-    (walk-more _ _ _ _ _ _ _ _ _ _ _ w
-      (omega (arith, w .place-is, w .fallen, c .nearer-square .ensures .0 .one, c .pre .room, c .pre .long .1, c .loop-square .kept .made))
-      (c .nearer-square .ensures .0)
-    , omega (arith, c .nearer-square .ensures .1, c .loop-square .inv .1)
-    , omega (arith, c .nearer-square .ensures .1, c .loop-square .inv .2))
+    let w = c .loop-square .inv .0 in (
+      walk-more _ _ _ _ _ _ _ _ _ _ _ w
+          (omega (arith, w .place-is, w .fallen, c .nearer-square .ensures .0 .one, c .pre .room, c .pre .long .1, c .loop-square .kept .made))
+          (c .nearer-square .ensures .0),
+      omega (arith, c .nearer-square .ensures .1, c .loop-square .inv .1),
+      omega (arith, c .nearer-square .ensures .1, c .loop-square .inv .2),
+    )
 
 pub returns : need.returns
 returns c = walk-end _ _ _ _ _ _ _ _ _ _ (c .loop-square .inv .0) (c .loop-square-test .left)
