@@ -40,11 +40,11 @@ returns-then-not-is-field c =
 
 pub returns-then-shuttle-bays : need.returns-then-shuttle-bays
 returns-then-shuttle-bays c =
-    refused 3 _ (c .args .route .now) (refused-shuttle _ _ _ _ _ _ _ _ (sym (c .if-not-is-field .ensures tt)) (c .if-shuttle-bays .taken)) (omega arith)
+    refused 3 _ (c .args .route .now) (refused-shuttle _ _ _ _ _ _ _ _ (sym (c .if-not-is-field .ensures tt)) (omega (arith, c .if-shuttle-bays .taken))) (omega arith)
 
 pub returns-then-not-is-asked : need.returns-then-not-is-asked
 returns-then-not-is-asked c =
-    refused 5 _ (c .args .route .now) (refused-asked _ _ _ _ _ _ _ _ (sym (c .if-not-is-field .ensures tt)) (c .if-shuttle-bays .left) (sym (c .if-not-is-asked .ensures tt))) (omega arith)
+    refused 5 _ (c .args .route .now) (refused-asked _ _ _ _ _ _ _ _ (sym (c .if-not-is-field .ensures tt)) (omega (arith, c .if-shuttle-bays .left)) (sym (c .if-not-is-asked .ensures tt))) (omega arith)
 
 pub through-requires : need.through-requires
 unfolding field-in
@@ -55,7 +55,7 @@ through-requires c κs =
       long = refl;
       few = a .few;
       start = free-below f (c .args .from) (a .free);
-      end = free-below f (getD (c .args .bays .now) (c .args .shuttle) 0) (bay-free f (c .args .shuttle) (c .if-shuttle-bays .left));
+      end = free-below f (getD (c .args .bays .now) (c .args .shuttle) 0) (bay-free f (c .args .shuttle) (omega (arith, c .if-shuttle-bays .left)));
       inside = a .inside;
     }
 
@@ -75,7 +75,7 @@ part-copy-from-slice-end-in-Some c =
 pub returns-in-Some : need.returns-in-Some
 unfolding field-in
 returns-in-Some c =
-    let n = refused-not (c .args .across) (c .args .down) (c .args .walls .now) (c .args .bays .now) (c .args .shuttle) (c .args .from) (c .args .row .now) (length (c .args .route .now)) (sym (c .if-not-is-field .ensures tt)) (c .if-shuttle-bays .left) (sym (c .if-not-is-asked .ensures tt)) in
+    let n = refused-not (c .args .across) (c .args .down) (c .args .walls .now) (c .args .bays .now) (c .args .shuttle) (c .args .from) (c .args .row .now) (length (c .args .route .now)) (sym (c .if-not-is-field .ensures tt)) (omega (arith, c .if-shuttle-bays .left)) (sym (c .if-not-is-asked .ensures tt)) in
     let b = c .in-Some .ensures tt (c .args .shuttle) (ends-push (getD (c .args .bays .now) (c .args .shuttle) 0) (c .args .row .now)) in
     found _ (c .args .shuttle) (c .args .from) (c .in-Some .squares) _ (c .args .row .now) (c .through .last .made) (c .args .route .now) _ n (c .through .kept .made) b
     (copied (c .in-Some .squares) (c .copy-from-slice .last .self) (c .through .last .made) (c .args .route .now) (c .copy-from-slice .ensures .after))
@@ -83,5 +83,5 @@ returns-in-Some c =
 pub returns-in-None : need.returns-in-None
 unfolding field-in
 returns-in-None c =
-    let n = refused-not (c .args .across) (c .args .down) (c .args .walls .now) (c .args .bays .now) (c .args .shuttle) (c .args .from) (c .args .row .now) (length (c .args .route .now)) (sym (c .if-not-is-field .ensures tt)) (c .if-shuttle-bays .left) (sym (c .if-not-is-asked .ensures tt)) in
+    let n = refused-not (c .args .across) (c .args .down) (c .args .walls .now) (c .args .bays .now) (c .args .shuttle) (c .args .from) (c .args .row .now) (length (c .args .route .now)) (sym (c .if-not-is-field .ensures tt)) (omega (arith, c .if-shuttle-bays .left)) (sym (c .if-not-is-asked .ensures tt)) in
     (n, nowhere-from-far _ (c .args .shuttle) (c .args .from) (c .args .row .now) (c .in-None .ensures tt (c .args .shuttle) (ends-push (getD (c .args .bays .now) (c .args .shuttle) 0) (c .args .row .now))), refl)
