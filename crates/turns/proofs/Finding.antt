@@ -1,7 +1,7 @@
 -- The parts of a field are found by joining, and so whether each touches at most two bays.
 use mathlib.Core.Path.{_≡_, refl, sym, ap, subst, _∙_}
 use mathlib.Core.Bool.{Bool, true, false, not, cond, _&&_, _||_}
-use mathlib.Core.List.{List, [], _∷_, _++_, map}
+use mathlib.Core.List.{List, map}
 use mathlib.Core.Logic.{_⊎_, inl, inr, ⊎-elim}
 use Prim.Native.Nat.{ℕ, zero, suc, _*_, _≤_, _<_}
 use native.Mathlib.Omega.{arith}
@@ -9,12 +9,14 @@ use lib.Dec.{eqb}
 use lib.ListN.{length, getD}
 use Rattle.std.proofs.shelf.Tests.{both-ways, cases-bool, cases-lt, cond-true, cond-false, cond-both, and-parts, and-from, or-cases, or-left, or-right, or-parts}
 use Rattle.std.proofs.shelf.Tests.{not-true, not-from-false, eqb-true, eqb-false, eq-eqb, ltb-true}
-use Rattle.std.proofs.shelf.Lists.{length-append, length-map, getD-append-left, getD-at}
+use Rattle.std.specs.Iters.{counting}
+use Rattle.std.proofs.shelf.Lists.{length-map, getD-map}
+use Rattle.std.proofs.shelf.Counted.{length-counting, getD-counting}
 use Rattle.rules.specs.Tests.{every-to, any-to}
 use Rattle.rules.specs.Field.{Field, free-square, beside}
 use Rattle.rules.proofs.Tests.{every-to-tells, every-to-from, any-to-tells, any-to-from}
 use Rattle.agents.proofs.Tests.{false-from}
-use Rattle.turns.specs.Parts.{open-square, linked, Connected, itself, link, back, chain, at-bay, At-most-two, numbers, joined, joined-row, joined-all, parts}
+use Rattle.turns.specs.Parts.{open-square, linked, Connected, itself, link, back, chain, at-bay, At-most-two, joined, joined-row, joined-all, parts}
 use Rattle.turns.specs.Parts.{touches, not-three, never-three, at-most-two}
 use Rattle.turns.specs.Parts.{Parts-are-found, At-most-two-is-found}
 
@@ -30,27 +32,6 @@ linked-tells f c d h = let (a, q) = and-parts _ _ h in let (b, e) = and-parts _ 
 pub at-bay-tells : (f : Field) (i c : ℕ) → at-bay f i c ≡ true → (open-square f c ≡ true) × (beside f (f .bay i) c ≡ true)
 unfolding at-bay
 at-bay-tells f i c h = and-parts _ _ h
-
--- the numbers below n
-numbers-long : (n : ℕ) → length (numbers n) ≡ n
-unfolding numbers
-numbers-long zero = refl
-numbers-long (suc n) = let e = length-append (numbers n) (n ∷ []) in let q = numbers-long n in omega arith
-
-numbers-at : (n c : ℕ) → c < n → getD (numbers n) c 0 ≡ c
-unfolding numbers
-numbers-at zero c l = absurd (omega arith)
-numbers-at (suc n) c l =
-    let before : c < n → getD (numbers n) c 0 ≡ c = numbers-at n c in
-    let long = numbers-long n in
-    ⊎-elim (λ m. getD-append-left (numbers n) (n ∷ []) 0 c (omega arith) ∙ before m)
-    (λ m. let q : c ≡ n = omega arith in getD-at (numbers n) n [] 0 c (omega arith) ∙ sym q)
-    (cases-lt c n)
-
-map-at : (g : ℕ → ℕ) (ps : List ℕ) (c : ℕ) → c < length ps → getD (map g ps) c 0 ≡ g (getD ps c 0)
-map-at g [] c l = absurd (omega arith)
-map-at g (p ∷ ps) zero l = refl
-map-at g (p ∷ ps) (suc c) l = map-at g ps c (omega arith)
 
 module _ (f : Field) where
   -- as many numbers as before
@@ -76,7 +57,7 @@ module _ (f : Field) where
   joined-at c d ps x l = ⊎-elim
       (λ (h : linked f c d ≡ true).
       ap (λ qs. getD qs x 0) (cond-true _ (map (λ p. cond (eqb p (getD ps d 0)) (getD ps c 0) p) ps) ps h)
-      ∙ map-at (λ p. cond (eqb p (getD ps d 0)) (getD ps c 0) p) ps x l
+      ∙ getD-map (λ p. cond (eqb p (getD ps d 0)) (getD ps c 0) p) ps x 0 0 l
       ∙ ap (λ b. cond (b && eqb (getD ps x 0) (getD ps d 0)) (getD ps c 0) (getD ps x 0)) (sym h))
       (λ (h : linked f c d ≡ false).
       ap (λ qs. getD qs x 0) (cond-false _ (map (λ p. cond (eqb p (getD ps d 0)) (getD ps c 0) p) ps) ps h)
@@ -186,8 +167,8 @@ module _ (f : Field) where
   one-number (link c d h) =
       let n = f .across * f .down in
       let (a, b, _) = linked-tells f c d h in
-      let q = numbers-long n in
-      all-links n n c d (numbers n) (omega arith) (omega arith) (open-below f c a) (open-below f d b) h
+      let q = length-counting 0 n in
+      all-links n n c d (counting 0 n) (omega arith) (omega arith) (open-below f c a) (open-below f d b) h
   one-number (back c d r) = sym (one-number r)
   one-number (chain c d e r q) = one-number r ∙ one-number q
 
@@ -195,11 +176,11 @@ pub parts-are-found : Parts-are-found
 unfolding parts
 parts-are-found f c d l m =
     let n = f .across * f .down in
-    let q = numbers-long n in
-    let long = all-long f n n (numbers n) in
+    let q = length-counting 0 n in
+    let long = all-long f n n (counting 0 n) in
     (
-      all-right f n n (numbers n) (omega arith) (omega arith)
-          (λ x y a b e. let e′ : x ≡ y = sym (numbers-at n x (omega arith)) ∙ e ∙ numbers-at n y (omega arith) in subst (Connected f x) e′ (itself x))
+      all-right f n n (counting 0 n) (omega arith) (omega arith)
+          (λ x y a b e. let u = getD-counting 0 n x 0 (omega arith) in let v = getD-counting 0 n y 0 (omega arith) in let e′ : x ≡ y = omega arith in subst (Connected f x) e′ (itself x))
           c d (omega arith) (omega arith),
       one-number f,
     )

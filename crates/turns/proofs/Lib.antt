@@ -10,3 +10,4 @@ pub mod Choices
 pub mod Patience
 pub mod Comings
 pub mod Nights
+pub mod Examples

@@ -5,6 +5,7 @@ ghost use Rattle.turns.specs.Bound.{All-done-in-time};
 ghost use Rattle.turns.specs.Home.{Home-in-time, Home-by-ticks};
 ghost use Rattle.turns.specs.Starving.{Starves};
 ghost use Rattle.turns.specs.Parts.{Parts-are-found, At-most-two-is-found};
+ghost use Rattle.turns.specs.Examples.{Both-kinds};
 ghost use Rattle.turns.specs.Waiting.{Nobody-starves, Each-comes-home};
 
 // A tick is a row of the arrivals that are due and then at most one step, each of which happens.
@@ -74,6 +75,13 @@ pub fn parts_are_found_stands() -> u8
 // And so whether each part touches at most two bays.
 pub fn at_most_two_is_found_stands() -> u8
     ensures { λ _. ⌜ At-most-two-is-found ⌝ }
+{
+    0
+}
+
+// There are fields of that kind, and the one in which somebody starves is none.
+pub fn both_kinds_stands() -> u8
+    ensures { λ _. ⌜ Both-kinds ⌝ }
 {
     0
 }

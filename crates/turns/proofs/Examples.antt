@@ -1,0 +1,13 @@
+-- Fields of both kinds, by computing.
+use mathlib.Core.Path.{refl}
+use mathlib.Core.List.{map}
+use Rattle.rules.specs.Tests.{every-to, any-to}
+use Rattle.rules.specs.Field.{is-bay-to, is-bay, free-square, bay-ok, sound, beside}
+use Rattle.rules.specs.Memory.{field-in}
+use Rattle.turns.specs.Parts.{open-square, linked, at-bay, joined, joined-row, joined-all, parts, touches, not-three, never-three, at-most-two}
+use Rattle.turns.specs.Starving.{corner}
+use Rattle.turns.specs.Examples.{lanes, Both-kinds}
+
+pub both-kinds : Both-kinds
+unfolding every-to any-to is-bay-to is-bay free-square bay-ok sound beside field-in open-square linked at-bay joined joined-row joined-all parts touches not-three never-three at-most-two corner lanes
+both-kinds = record { lanes-sound = refl; lanes-two = refl; corner-three = refl }
