@@ -34,17 +34,21 @@ sum-done m f g e d l =
     ap (λ x. sum-to m x n + m (g (who e))) (done f g e d) ∙ ap (λ x. x + m (g (who e))) (sym (sum-is m (put g (who e) s) n)) ∙ sum-put m g
     (who e) s n .0 l ∙ ap (λ x. x + m s) (sum-is m g n)
 
-pub less-left : Less-left
-unfolding after does who becomes squares-left
-less-left f es i h =
-    let g = after f es in
+-- a granted step leaves one square less, in any fleet
+pub granted-less : (f : Field) (g : Fleet) (i : ℕ) → grants f g i ≡ true
+    → suc (sum-to squares-left (happens f g (step i)) (f .shuttles)) ≡ sum-to squares-left g (f .shuttles)
+unfolding does who becomes squares-left
+granted-less f g i h =
     let t = grants-tells f g i h in
     let e = sum-done squares-left f g (step i) h (t .there) in
-    let e′ = ap length (steps (g i) (t .something-left) .left) in
-    omega arith
+    let e′ = ap length (steps (g i) (t .something-left) .left) in omega arith
+
+pub less-left : Less-left
+unfolding after
+less-left f es i h = granted-less f (after f es) i h
 
 -- each event that happens and is no order leaves one event less
-event-falls : (f : Field) (g : Fleet) (e : Event) → no-order e ≡ true → does f g e ≡ true →
+pub event-falls : (f : Field) (g : Fleet) (e : Event) → no-order e ≡ true → does f g e ≡ true →
     suc (sum-to events-left (happens f g e) (f .shuttles)) ≡ sum-to events-left g (f .shuttles)
 unfolding does who becomes events-left no-order arrived
 event-falls f g (order i r) o d = absurd (both-ways false refl o)

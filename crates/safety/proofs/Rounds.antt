@@ -51,16 +51,16 @@ module _ (bs : List ℕ) where
     free-can i out l all =
         let w = bitOr out (2 ^ i) in
         ⊎-elim
-          (λ (e : eqb (bitOr (getD bs i 0) w) w ≡ true).
-            let within : bitOr (getD bs i 0) w ≡ w = eqb-true _ _ e in
-            let can : CanGo n (λ i j. has (getD bs i 0) j) nobody i =
-              goes i l refl (λ k m ne h.
-                let in-w : has w k ≡ true = ap (λ t. has t k) (sym within) ∙ has-or (getD bs i 0) w k ∙ or-left _ _ h in
-                ⊎-elim (λ o. all k m o) (λ q. absurd (ne (eqb-true _ _ q))) (or-cases _ _ (sym (with-has out i k) ∙ in-w))) in
-            rw e (λ j m h. ⊎-elim (λ o. all j m o) (λ q. subst (CanGo n (λ i j. has (getD bs i 0) j) nobody) (eqb-true _ _ q) can)
-              (or-cases _ _ (sym (with-has out i j) ∙ h))))
-          (λ (e : eqb (bitOr (getD bs i 0) w) w ≡ false). rw e all)
-          (cases-bool (eqb (bitOr (getD bs i 0) w) w))
+        (λ (e : eqb (bitOr (getD bs i 0) w) w ≡ true).
+        let within : bitOr (getD bs i 0) w ≡ w = eqb-true _ _ e in
+        let can : CanGo n (λ i j. has (getD bs i 0) j) nobody i =
+        goes i l refl (λ k m ne h.
+        let in-w : has w k ≡ true = ap (λ t. has t k) (sym within) ∙ has-or (getD bs i 0) w k ∙ or-left _ _ h in
+        ⊎-elim (λ o. all k m o) (λ q. absurd (ne (eqb-true _ _ q))) (or-cases _ _ (sym (with-has out i k) ∙ in-w))) in
+        rw e (λ j m h. ⊎-elim (λ o. all j m o) (λ q. subst (CanGo n (λ i j. has (getD bs i 0) j) nobody) (eqb-true _ _ q) can)
+        (or-cases _ _ (sym (with-has out i j) ∙ h))))
+        (λ (e : eqb (bitOr (getD bs i 0) w) w ≡ false). rw e all)
+        (cases-bool (eqb (bitOr (getD bs i 0) w) w))
 
     pub round-can : (m out : ℕ) → m ≤ n → All-can out → All-can (round bs m out)
     unfolding round
@@ -69,7 +69,7 @@ module _ (bs : List ℕ) where
 
     -- where a round takes out nobody, each that is not out is blocked by another that is not out
     pub round-stuck : ((i : ℕ) → getD bs i 0 < 2 ^ 16) → ((i j : ℕ) → i < n → has (getD bs i 0) j ≡ true → j < n) → (out : ℕ)
-      → round bs n out ≡ out → None-free n (λ i j. has (getD bs i 0) j) nobody (λ i. not (has out i))
+        → round bs n out ≡ out → None-free n (λ i j. has (getD bs i 0) j) nobody (λ i. not (has out i))
     unfolding round with-free
     round-stuck small below out fixed i l h =
         let w = bitOr out (2 ^ i) in
@@ -77,12 +77,12 @@ module _ (bs : List ℕ) where
         let here : with-free bs i out ≡ out = subst (λ t. with-free bs i t ≡ out) before (round-fixed n (suc i) out (omega arith) fixed) in
         let i-out : has out i ≡ false = not-true _ h in
         inr (⊎-elim
-          (λ (t : (j : ℕ) × (j < 16) × ((has (getD bs i 0) j && not (has w j)) ≡ true)).
-            let p = and-parts _ _ (t .2) in
-            let q = or-parts _ _ (sym (with-has out i (t .0)) ∙ not-true _ (p .1)) in
-            (t .0, below i (t .0) l (p .0), (λ e. both-ways _ (q .1) (eq-eqb _ _ e)), ap not (q .0), p .0))
-          (λ none.
-            let same : bitOr (getD bs i 0) w ≡ w = or-within 16 (getD bs i 0) w (small i) (λ j m g. let z = none j m in grind (arith, tells)) in
-            let taken : w ≡ out = rw (eq-eqb (bitOr (getD bs i 0) w) w same) at here in
-            absurd (both-ways _ i-out (ap (λ t. has t i) (sym taken) ∙ with-has out i i ∙ or-right _ _ (eq-eqb i i refl))))
-          (some-below 16 (λ j. has (getD bs i 0) j && not (has w j))))
+        (λ (t : (j : ℕ) × (j < 16) × ((has (getD bs i 0) j && not (has w j)) ≡ true)).
+        let p = and-parts _ _ (t .2) in
+        let q = or-parts _ _ (sym (with-has out i (t .0)) ∙ not-true _ (p .1)) in
+        (t .0, below i (t .0) l (p .0), (λ e. both-ways _ (q .1) (eq-eqb _ _ e)), ap not (q .0), p .0))
+        (λ none.
+        let same : bitOr (getD bs i 0) w ≡ w = or-within 16 (getD bs i 0) w (small i) (λ j m g. let z = none j m in grind (arith, tells)) in
+        let taken : w ≡ out = rw (eq-eqb (bitOr (getD bs i 0) w) w same) at here in
+        absurd (both-ways _ i-out (ap (λ t. has t i) (sym taken) ∙ with-has out i i ∙ or-right _ _ (eq-eqb i i refl))))
+        (some-below 16 (λ j. has (getD bs i 0) j && not (has w j))))

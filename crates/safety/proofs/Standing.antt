@@ -24,21 +24,21 @@ stands-none at t clear c k = ap (λ x. has x k) (clear c) ∙ has-nothing k ∙ 
 
 -- one shuttle more
 pub stands-more : (at : ℕ → ℕ) (n : ℕ) (t : List ℕ) → at n < length t → Stands at n t
-  → Stands at (n + 1) (set t (at n) (bitOr (getD t (at n) 0) (2 ^ n)))
+    → Stands at (n + 1) (set t (at n) (bitOr (getD t (at n) 0) (2 ^ n)))
 stands-more at n t l h c k =
     ⊎-elim
-      (λ (e : c ≡ at n).
-        rw (e, getD-set-same t (at n) (bitOr (getD t (at n) 0) (2 ^ n)) 0 l, has-or (getD t (at n) 0) (2 ^ n) k, has-one n k, h (at n) k)
-          (let s : n ≡ k → at n ≡ at k = ap at in grind (arith, tells, s)))
-      (λ ne.
-        let other : c ≢ at n = ne in
-        rw (getD-set-other t (at n) c (bitOr (getD t (at n) 0) (2 ^ n)) 0 ne, h c k)
-          (let s : n ≡ k → at n ≡ at k = ap at in grind (arith, tells, s)))
-      (cases-eq c (at n))
+    (λ (e : c ≡ at n).
+    rw (e, getD-set-same t (at n) (bitOr (getD t (at n) 0) (2 ^ n)) 0 l, has-or (getD t (at n) 0) (2 ^ n) k, has-one n k, h (at n) k)
+    (let s : n ≡ k → at n ≡ at k = ap at in grind (arith, tells, s)))
+    (λ ne.
+    let other : c ≢ at n = ne in
+    rw (getD-set-other t (at n) c (bitOr (getD t (at n) 0) (2 ^ n)) 0 ne, h c k)
+    (let s : n ≡ k → at n ≡ at k = ap at in grind (arith, tells, s)))
+    (cases-eq c (at n))
 
 -- a walk over a route: what was met so far, and what is still to be met
 pub met-more : (t r : List ℕ) (i all j : ℕ) (whole : Bool) → i < length r → (has all j || met t j (drop i r)) ≡ whole
-  → (has (bitOr all (getD t (getD r i 0) 0)) j || met t j (drop (i + 1) r)) ≡ whole
+    → (has (bitOr all (getD t (getD r i 0) 0)) j || met t j (drop (i + 1) r)) ≡ whole
 unfolding met
 met-more t r i all j whole l h =
     let e : met t j (drop i r) ≡ met t j (getD r i 0 ∷ drop (i + 1) r) = at-drop-more (met t j) r i 0 l in

@@ -34,10 +34,12 @@ fn met_on(table: &[u16], route: &[u16]) -> u16
     all
 }
 
-// Of each shuttle, the set of those that are on a square that it has still to go over.
+// Of each shuttle, the set of those that are on a square that it has still to go over. The part of memory that is one
+// route is handed on.
 pub fn blockers(fleet: &Fleet, table: &[u16]) -> [u16; 16]
     requires { ⌜ length (now table) ≡ 4096 ⌝ }
-    ensures { λ r. ⌜ ((i j : ℕ) → i < now (fleet .entry) .count → has (getD r i 0) j ≡ met (now (table .entry)) j (fleet-of (now (fleet .entry) .shuttles) (now (now (fleet .entry) .memory)) i .route)) ⌝ }
+    ensures long { λ r. ⌜ length r ≡ 16 ⌝ }
+    ensures met { λ r. ⌜ ((i j : ℕ) → i < now (fleet .entry) .count → has (getD r i 0) j ≡ met (now (table .entry)) j (fleet-of (now (fleet .entry) .shuttles) (now (now (fleet .entry) .memory)) i .route)) ⌝ }
 {
     let mut sets = [0u16; 16];
     for i in 0..fleet.count {

@@ -3,7 +3,7 @@ ghost use mathlib.Core.Path.{_≡_};
 ghost use mathlib.Core.Bool.{true};
 ghost use Prim.Native.Nat.{ℕ, _≤_, _<_};
 ghost use lib.Dec.{ltb};
-ghost use lib.ListN.{getD};
+ghost use lib.ListN.{length, getD};
 ghost use Rattle.std.specs.Orderings.{Decides};
 ghost use Rattle.agents.specs.Going.{CanGo, nobody};
 ghost use Rattle.safety.specs.Masks.{has, round};
@@ -21,8 +21,9 @@ fn everybody(count: usize) -> u16
 }
 
 // One round over the shuttles: each is taken out if all that block it are out. `out` is the set of those taken out.
-fn taken_out(blockers: &[u16; 16], count: usize, out: u16) -> u16
-    requires { ⌜ count ≤ 16 ⌝ }
+fn taken_out(blockers: &[u16], count: usize, out: u16) -> u16
+    requires few { ⌜ count ≤ 16 ⌝ }
+    requires long { ⌜ length (now blockers) ≡ 16 ⌝ }
     ensures { λ r. ⌜ r ≡ round (now (blockers .entry)) count out ⌝ }
 {
     let mut out = out;
@@ -36,8 +37,9 @@ fn taken_out(blockers: &[u16; 16], count: usize, out: u16) -> u16
 }
 
 // Whether all can run, one after the other: rounds are made until one takes out nobody.
-pub fn all_go(blockers: &[u16; 16], count: usize) -> bool
+pub fn all_go(blockers: &[u16], count: usize) -> bool
     requires few { ⌜ count ≤ 16 ⌝ }
+    requires long { ⌜ length (now blockers) ≡ 16 ⌝ }
     requires below { ⌜ ((i j : ℕ) → i < count → has (getD (now blockers) i 0) j ≡ true → j < count) ⌝ }
     ensures { λ r. ⌜ Decides r ((i : ℕ) → i < count → CanGo count (λ i j. has (getD (now (blockers .entry)) i 0) j) nobody i) ⌝ }
 {
