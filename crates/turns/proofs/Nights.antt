@@ -20,8 +20,9 @@ use Rattle.rules.proofs.Tests.{empty-tells}
 use Rattle.promise.proofs.Places.{steps, idle-home}
 use Rattle.promise.proofs.Events.{takes-tells, grants-tells, Good, good-after}
 use Rattle.promise.proofs.GoingOn.{done}
+use Rattle.promise.proofs.Home.{same-shuttle}
 use Rattle.turns.specs.Tick.{is-due, all-come, waits, one-more, counted-to, counted, chosen, Turn, granted-to, choose, tick}
-use Rattle.turns.specs.Night.{give, give-to, all-given, next, night}
+use Rattle.turns.specs.Night.{give, give-to, all-given, next, night, Nights-are-rows}
 use Rattle.turns.specs.Parts.{At-most-two}
 use Rattle.turns.specs.Waiting.{Any-night, most-ticks, Nobody-starves, Each-comes-home}
 use Rattle.turns.proofs.Ticks.{due-come, counted-length, counts-all, Best, choice, not-done}
@@ -29,11 +30,8 @@ use Rattle.turns.proofs.Bounds.{due-soon}
 use Rattle.turns.proofs.Home.{others-stay, all-come-moves, Reached, come-reached}
 use Rattle.turns.proofs.Parts.{Placed-own, placed-own}
 use Rattle.turns.proofs.Choices.{Choices, waits-tells}
-use Rattle.turns.proofs.Patience.{gets-step}
-use Rattle.turns.proofs.Comings.{done as comes-done}
-
-same-shuttle : (s t : Shuttle) → s .at ≡ t .at → s .moving ≡ t .moving → s .behind ≡ t .behind → s .route ≡ t .route → s ≡ t
-same-shuttle s t a m b r k = record { at = a k; moving = m k; behind = b k; route = r k }
+use Rattle.turns.proofs.Serving.{gets-step}
+use Rattle.turns.proofs.ComingHome.{done as comes-done}
 
 -- an order is taken by one that stands with nothing left, and changes nothing else
 order-makes : (f : Field) (g : Fleet) (i : ℕ) (r : List ℕ) (j : ℕ) →
@@ -114,6 +112,19 @@ give-reached f g routes (suc k) r =
     (λ z. (order k (routes k) ∷ rs, cond-false _ g′ (happens f g′ (order k (routes k))) z ∙ ap (λ x. happens f x (order k (routes k))) e))
     (cases-bool (is-empty (routes k)))
 
+-- a night is a row of events, so that all that is promised of rows holds of it
+next-reached : (f : Field) (s : Turn) (routes : ℕ → List ℕ) (marks : List ℕ) → Reached f (s .fleet) → Reached f (next f s routes marks .fleet)
+unfolding next tick choose granted-to all-given after
+next-reached f s routes marks r =
+    let (rs, e) = come-reached f (all-given f (s .fleet) routes) marks (give-reached f (s .fleet) routes (f .shuttles) r) in
+    let w = next f s routes marks .whose in (step w ∷ rs, ap (λ x. happens f x (step w)) e)
+
+pub nights-are-rows : Nights-are-rows
+unfolding night
+nights-are-rows f es s orders marks zero b = (es, b)
+nights-are-rows f es s orders marks (suc t) b =
+    next-reached f (night f s orders marks t) (orders t) (marks t) (nights-are-rows f es s orders marks t b)
+
 -- one that moves or has something left takes no order, and one that stands takes no arrival
 same-given : (f : Field) (g : Fleet) (routes : ℕ → List ℕ) (j : ℕ) → (g j .moving ≡ true) ⊎ (is-empty (g j .route) ≡ false) →
     all-given f g routes j ≡ g j
@@ -160,18 +171,10 @@ module _ (f : Field) (s : Turn) (orders : ℕ → ℕ → List ℕ) (marks : ℕ
       let e = ap length (is-waits t) ∙ length-set (waits-at t) (whose t) 0 ∙ counted-length (fleet-at t) (now t .waits) (f .shuttles) in
       let q = long t in omega arith
 
-  come-there : (t : ℕ) → Reached f (now t .fleet) → Reached f (fleet-at t)
-  unfolding all-given
-  come-there t r = come-reached f (all-given f (now t .fleet) (orders t)) (marks t) (give-reached f (now t .fleet) (orders t) (f .shuttles) r)
-
-  there : (t : ℕ) → Reached f (now t .fleet)
-  unfolding night after
-  there zero = (nn .es, nn .begins)
-  there (suc t) =
-      let (rs, e) = come-there t (there t) in (step (whose t) ∷ rs, is-fleet t ∙ ap (λ x. happens f x (step (whose t))) e)
-
   reached : (t : ℕ) → Reached f (fleet-at t)
-  reached t = come-there t (there t)
+  unfolding all-given
+  reached t = come-reached f (all-given f (now t .fleet) (orders t)) (marks t)
+      (give-reached f (now t .fleet) (orders t) (f .shuttles) (nights-are-rows f (nn .es) s orders marks t (nn .begins)))
 
   Chosen : ℕ → Type 0
   Chosen t = Best f (fleet-at t) (waits-at t) (f .shuttles) (whose t) ⊎

@@ -25,8 +25,8 @@ use Rattle.agents.proofs.Going.{blocker-goes}
 use Rattle.agents.proofs.Grants.{may-free}
 use Rattle.promise.specs.Promise.{Placed}
 use Rattle.promise.specs.Rule.{shuttles}
-use Rattle.promise.proofs.Shuttles.{blocks-is, holds-is}
-use Rattle.promise.proofs.Places.{May-step, route-tells, bays-differ, route-avoids, steps, idle-home}
+use Rattle.promise.proofs.Shuttles.{among-is, holds-is}
+use Rattle.promise.proofs.Places.{bay-is, May-step, route-tells, steps}
 use Rattle.promise.proofs.Events.{takes-tells, grants-tells, grants-from, arrives-tells, Good, good-after}
 use Rattle.turns.specs.Parts.{open-square, linked, link, at-bay, parts, touches}
 use Rattle.turns.proofs.Finding.{one-number, touches-from}
@@ -39,13 +39,9 @@ open-is : (f : Field) (c : ℕ) → open-square f c ≡ true → (free-square f 
 unfolding open-square
 open-is f c h = let (a, b) = and-parts _ _ h in (a, not-true _ b)
 
-bay-is : (f : Field) (j c : ℕ) → j < f .shuttles → c ≡ f .bay j → is-bay f c ≡ true
-unfolding is-bay is-bay-to
-bay-is f j c l e = any-to-from (λ i. eqb (f .bay i) c) (f .shuttles) j l (eq-eqb _ _ (sym e))
-
 -- an open square is nobody's bay
 pub not-bay : (f : Field) (j c : ℕ) → j < f .shuttles → open-square f c ≡ true → c ≡ f .bay j → ⊥
-not-bay f j c l o e = both-ways _ (open-is f c o .1) (bay-is f j c l e)
+not-bay f j c l o e = both-ways _ (open-is f c o .1) (bay-is f j c l (sym e))
 
 -- where a step leads: to an open square, or to the bay at the very end
 pub next-is : (f : Field) (i c d : ℕ) (ds : List ℕ) → route-ok f i c (d ∷ ds) ≡ true →
@@ -170,11 +166,6 @@ stands-holds s c m h = grind (arith, tells)
 -- nobody else holds a square of what i has left
 abbrev pub Clear : Field → Fleet → ℕ → Type 0
 Clear f g i = (j : ℕ) → j < f .shuttles → (i ≡ j → ⊥) → (c : ℕ) → among c (g i .route) ≡ true → holds (g j) c ≡ false
-
-among-is : (x : ℕ) (ys : List ℕ) → is-in x ys ≡ among x ys
-unfolding among is-in
-among-is x [] = refl
-among-is x (y ∷ ys) = ap (λ t. eqb x y || t) (among-is x ys)
 
 -- then its step is granted
 pub clear-granted : (f : Field) (g : Fleet) → Good f g → (i : ℕ) → i < f .shuttles → g i .moving ≡ false → is-empty (g i .route) ≡ false →

@@ -3,6 +3,7 @@
 ghost use Rattle.turns.specs.Rows.{Ticks-are-rows, Due-come, Waits-count, Longest-first};
 ghost use Rattle.turns.specs.Bound.{All-done-in-time};
 ghost use Rattle.turns.specs.Home.{Home-in-time, Home-by-ticks};
+ghost use Rattle.turns.specs.Night.{Nights-are-rows};
 ghost use Rattle.turns.specs.Starving.{Starves};
 ghost use Rattle.turns.specs.Parts.{Parts-are-found, At-most-two-is-found};
 ghost use Rattle.turns.specs.Examples.{Both-kinds};
@@ -53,6 +54,13 @@ pub fn home_in_time_stands() -> u8
 // And so where the one that has waited longest is chosen.
 pub fn home_by_ticks_stands() -> u8
     ensures { λ _. ⌜ Home-by-ticks ⌝ }
+{
+    0
+}
+
+// With orders before the ticks, each fleet is still one after a row of events.
+pub fn nights_are_rows_stands() -> u8
+    ensures { λ _. ⌜ Nights-are-rows ⌝ }
 {
     0
 }
