@@ -1,5 +1,5 @@
 -- The bound on coming home: from one grant to the next at most so many ticks pass, and so many more until the last has arrived.
-use mathlib.Core.Path.{_≡_, refl, sym, ap, subst, _∙_}
+use mathlib.Core.Path.{_≡_, refl, ap, subst, _∙_}
 use mathlib.Core.Bool.{Bool, true, false}
 use mathlib.Core.Logic.{_⊎_, inl, inr, ⊎-elim}
 use Prim.Native.Nat.{ℕ, zero, suc, _+_, _*_, _-_, max, _≤_, _<_}
@@ -7,7 +7,7 @@ use native.Mathlib.Omega.{arith}
 use lib.Dec.{ltb}
 use Rattle.std.proofs.shelf.Tests.{both-ways, cases-lt, ltb-true, ltb-false}
 use Rattle.agents.proofs.Tests.{some-below, false-from}
-use Rattle.turns.specs.Bound.{Ticking, Begins, Comes-within, All-done-in-time}
+use Rattle.turns.specs.Bound.{Ticking, Comes-within, All-done-in-time}
 
 -- whoever is on its way at any time is due within the next d ticks
 pub due-soon : (n : ℕ) (moves due : ℕ → ℕ → Bool) (whose : ℕ → ℕ) (d : ℕ) →
@@ -108,9 +108,9 @@ module _ (n : ℕ) (left : ℕ → ℕ) (moves due : ℕ → ℕ → Bool) (whos
         let z = nothing-left (left 0) 0 (omega arith) in
         let z′ : left s ≡ 0 = subst (λ x. left x ≡ 0) (omega arith) z in
         let none : (u : ℕ) → s ≤ u → left u ≡ 0 = λ u a.
-            let p = falls s (u - s) in let e : left (s + (u - s)) ≡ left u = ap left (omega arith) in omega arith in
+        let p = falls s (u - s) in let e : left (s + (u - s)) ≡ left u = ap left (omega arith) in omega arith in
         let no-grant : (u : ℕ) → s ≤ u → n ≤ whose u = λ u a.
-            ⊎-elim (λ l. let q = r .one-less u l in let o = none u a in absurd (omega arith)) (λ l. l) (cases-lt (whose u) n) in
+        ⊎-elim (λ l. let q = r .one-less u l in let o = none u a in absurd (omega arith)) (λ l. l) (cases-lt (whose u) n) in
         let m : ℕ = t - max d 1 in (
           none t (omega arith),
           λ i l. subst (λ x. moves x i ≡ false) (omega arith) (at-rest m (λ k b. no-grant (m + k) (omega arith)) i l),

@@ -1,6 +1,5 @@
 -- Fields of both kinds, by computing.
 use mathlib.Core.Path.{refl}
-use mathlib.Core.List.{map}
 use Rattle.rules.specs.Tests.{every-to, any-to}
 use Rattle.rules.specs.Field.{is-bay-to, is-bay, free-square, bay-ok, sound, beside}
 use Rattle.rules.specs.Memory.{field-in}

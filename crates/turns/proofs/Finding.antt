@@ -1,21 +1,19 @@
 -- The parts of a field are found by joining, and so whether each touches at most two bays.
 use mathlib.Core.Path.{_≡_, refl, sym, ap, subst, _∙_}
-use mathlib.Core.Bool.{Bool, true, false, not, cond, _&&_, _||_}
+use mathlib.Core.Bool.{Bool, true, false, cond, _&&_, _||_}
 use mathlib.Core.List.{List, map}
 use mathlib.Core.Logic.{_⊎_, inl, inr, ⊎-elim}
 use Prim.Native.Nat.{ℕ, zero, suc, _*_, _≤_, _<_}
 use native.Mathlib.Omega.{arith}
 use lib.Dec.{eqb}
 use lib.ListN.{length, getD}
-use Rattle.std.proofs.shelf.Tests.{both-ways, cases-bool, cases-lt, cond-true, cond-false, cond-both, and-parts, and-from, or-cases, or-left, or-right, or-parts}
-use Rattle.std.proofs.shelf.Tests.{not-true, not-from-false, eqb-true, eqb-false, eq-eqb, ltb-true}
+use Rattle.std.proofs.shelf.Tests.{both-ways, cases-bool, cases-lt, cond-true, cond-false, cond-both, and-parts, and-from, or-cases, or-left, or-right}
+use Rattle.std.proofs.shelf.Tests.{not-true, not-from-false, eqb-true, eq-eqb, ltb-true}
 use Rattle.std.specs.Iters.{counting}
 use Rattle.std.proofs.shelf.Lists.{length-map, getD-map}
 use Rattle.std.proofs.shelf.Counted.{length-counting, getD-counting}
-use Rattle.rules.specs.Tests.{every-to, any-to}
 use Rattle.rules.specs.Field.{Field, free-square, beside}
 use Rattle.rules.proofs.Tests.{every-to-tells, every-to-from, any-to-tells, any-to-from}
-use Rattle.agents.proofs.Tests.{false-from}
 use Rattle.turns.specs.Parts.{open-square, linked, Connected, itself, link, back, chain, at-bay, At-most-two, joined, joined-row, joined-all, parts}
 use Rattle.turns.specs.Parts.{touches, not-three, never-three, at-most-two}
 use Rattle.turns.specs.Parts.{Parts-are-found, At-most-two-is-found}
@@ -177,8 +175,7 @@ unfolding parts
 parts-are-found f c d l m =
     let n = f .across * f .down in
     let q = length-counting 0 n in
-    let long = all-long f n n (counting 0 n) in
-    (
+    let long = all-long f n n (counting 0 n) in (
       all-right f n n (counting 0 n) (omega arith) (omega arith)
           (λ x y a b e. let u = getD-counting 0 n x 0 (omega arith) in let v = getD-counting 0 n y 0 (omega arith) in let e′ : x ≡ y = omega arith in subst (Connected f x) e′ (itself x))
           c d (omega arith) (omega arith),
@@ -226,8 +223,8 @@ three-from f i j k p h = ⊎-elim
     let (a, q) = and-parts _ _ t in
     let (b, e) = and-parts _ _ q in
     let same : (eqb i j || (eqb i k || eqb j k)) ≡ true = ⊎-elim (λ z. or-left (eqb i j) _ (eq-eqb i j z))
-        (λ z. or-right (eqb i j) (eqb i k || eqb j k) (⊎-elim (λ z. or-left (eqb i k) _ (eq-eqb i k z)) (λ z. or-right (eqb i k) _ (eq-eqb j k z)) z))
-        (h a b e) in
+    (λ z. or-right (eqb i j) (eqb i k || eqb j k) (⊎-elim (λ z. or-left (eqb i k) _ (eq-eqb i k z)) (λ z. or-right (eqb i k) _ (eq-eqb j k z)) z))
+    (h a b e) in
     or-left (eqb i j || (eqb i k || eqb j k)) _ same)
     (λ (t : (touches f (parts f) i p && (touches f (parts f) j p && touches f (parts f) k p)) ≡ false). or-right _ _ (not-from-false _ t))
     (cases-bool (touches f (parts f) i p && (touches f (parts f) j p && touches f (parts f) k p)))

@@ -1,33 +1,31 @@
 -- Parts of a field: where a shuttle can be, who can hold a square of its route, and that it is granted its step where nobody does.
 use mathlib.Core.Path.{_≡_, refl, sym, ap, subst, _∙_}
-use mathlib.Core.Bool.{Bool, true, false, not, cond, _&&_, _||_}
+use mathlib.Core.Bool.{Bool, true, false}
 use mathlib.Core.List.{List, [], _∷_}
 use mathlib.Core.Logic.{_⊎_, inl, inr, ⊎-elim}
-use Prim.Native.Nat.{ℕ, suc, _+_, _*_, _≤_, _<_}
+use Prim.Native.Nat.{ℕ, _≤_, _<_}
 use native.Mathlib.Omega.{arith}
-use lib.Dec.{eqb, ltb}
+use lib.Dec.{eqb}
 use lib.ListN.{length, getD}
-use Rattle.std.proofs.shelf.Tests.{both-ways, cases-bool, cases-eq, cond-both, and-parts, and-from, or-cases, or-left, or-right, not-true, not-from-false}
-use Rattle.std.proofs.shelf.Tests.{eqb-true, eq-eqb, ltb-true, lt-ltb}
+use Rattle.std.proofs.shelf.Tests.{both-ways, cond-both, and-parts, and-from, or-cases, or-left, or-right, not-true}
+use Rattle.std.proofs.shelf.Tests.{eqb-true}
 use Rattle.std.proofs.shelf.Ways.{tells}
-use Rattle.rules.specs.Tests.{any-to, among, is-empty}
-use Rattle.rules.specs.Field.{Field, is-bay-to, is-bay, free-square, sound, beside}
-use Rattle.rules.specs.Route.{step-ok, route-ok}
-use Rattle.rules.specs.Shuttle.{Shuttle, Fleet, holds, put, at-home, ordered, next-square, stepped-to, stepped, arrived}
+use Rattle.rules.specs.Tests.{among, is-empty}
+use Rattle.rules.specs.Field.{Field, is-bay, free-square, sound, beside}
+use Rattle.rules.specs.Route.{route-ok}
+use Rattle.rules.specs.Shuttle.{Shuttle, Fleet, holds, put, at-home, ordered, next-square, stepped, arrived}
 use Rattle.rules.specs.Event.{Event, order, step, arrive, takes, grants, arrives, does, who, becomes, happens, after}
-use Rattle.rules.proofs.Tests.{any-to-from, empty-tells}
-use Rattle.agents.specs.Numbers.{among as is-in, meets, Within}
+use Rattle.agents.specs.Numbers.{among as is-in}
 use Rattle.agents.specs.Going.{CanGo, goes}
-use Rattle.agents.specs.Kinds.{put as with-agent, blocks, Free-for}
+use Rattle.agents.specs.Kinds.{put as with-agent, Free-for}
 use Rattle.agents.proofs.Tests.{false-from, meets-tells}
 use Rattle.agents.proofs.Fleets.{put-each}
-use Rattle.agents.proofs.Going.{blocker-goes}
 use Rattle.agents.proofs.Grants.{may-free}
 use Rattle.promise.specs.Promise.{Placed}
 use Rattle.promise.specs.Rule.{shuttles}
 use Rattle.promise.proofs.Shuttles.{among-is, holds-is}
-use Rattle.promise.proofs.Places.{bay-is, May-step, route-tells, steps}
-use Rattle.promise.proofs.Events.{takes-tells, grants-tells, grants-from, arrives-tells, Good, good-after}
+use Rattle.promise.proofs.Places.{bay-is, route-tells, steps}
+use Rattle.promise.proofs.Events.{takes-tells, grants-tells, grants-from, Good, good-after}
 use Rattle.turns.specs.Parts.{open-square, linked, link, at-bay, parts, touches}
 use Rattle.turns.proofs.Finding.{one-number, touches-from}
 
@@ -62,11 +60,14 @@ module _ (f : Field) where
   step-own i c d ds h m =
       let s = route-tells f i c d ds h in
       ⊎-elim
-      (λ (o : open-square f d ≡ true). inr (o, ⊎-elim
-      (λ (e : c ≡ f .bay i). touches-from f i d (getD (parts f) d 0) (and-from _ _ o (subst (λ x. beside f x d ≡ true) e (s .next-to))) refl)
-      (λ (q : (open-square f c ≡ true) × (touches f (parts f) i (getD (parts f) c 0) ≡ true)).
-      subst (λ p. touches f (parts f) i p ≡ true) (one-part-of c d (q .0) o (s .next-to)) (q .1))
-      m))
+      (λ (o : open-square f d ≡ true). inr (
+        o,
+        ⊎-elim
+            (λ (e : c ≡ f .bay i). touches-from f i d (getD (parts f) d 0) (and-from _ _ o (subst (λ x. beside f x d ≡ true) e (s .next-to))) refl)
+            (λ (q : (open-square f c ≡ true) × (touches f (parts f) i (getD (parts f) c 0) ≡ true)).
+            subst (λ p. touches f (parts f) i p ≡ true) (one-part-of c d (q .0) o (s .next-to)) (q .1))
+            m,
+      ))
       (λ (o : (d ≡ f .bay i) × (is-empty ds ≡ true)). inl (o .0))
       (next-is f i c d ds h)
 
@@ -78,7 +79,7 @@ module _ (f : Field) where
   one-part i c (d ∷ ds) o h x a =
       let s = route-tells f i c d ds h in
       let rest : open-square f d ≡ true → among x ds ≡ true → (x ≡ f .bay i) ⊎ ((open-square f x ≡ true) × (getD (parts f) x 0 ≡ getD (parts f) d 0)) = λ o′ a′.
-          one-part i d ds o′ (s .after) x a′ in
+      one-part i d ds o′ (s .after) x a′ in
       ⊎-elim
       (λ (o′ : open-square f d ≡ true).
       let e : getD (parts f) d 0 ≡ getD (parts f) c 0 = sym (one-part-of c d o o′ (s .next-to)) in
@@ -175,8 +176,8 @@ clear-granted f g p i l m e q =
     let n = f .shuttles in
     let h = steps (g i) e in
     let free : (cs : List ℕ) → ((c : ℕ) → is-in c cs ≡ true → among c (g i .route) ≡ true) → Free-for shuttles n g i cs = λ cs sub j b ne.
-        false-from _ (λ v. let (c, x, y) = meets-tells (shuttles .held (g j)) cs v in
-        both-ways _ (q j b ne c (sub c y)) (sym (holds-is (g j) c) ∙ x)) in
+    false-from _ (λ v. let (c, x, y) = meets-tells (shuttles .held (g j)) cs v in
+    both-ways _ (q j b ne c (sub c y)) (sym (holds-is (g j) c) ∙ x)) in
     grants-from f g i (record {
       there = l;
       stands = m;

@@ -1,13 +1,13 @@
 -- One that never gets a step: the eight states that the hall goes through, again and again.
-use mathlib.Core.Path.{_≡_, refl, sym, ap, subst, fun-ext, _∙_}
-use mathlib.Core.Bool.{Bool, true, false, cond}
+use mathlib.Core.Path.{_≡_, refl, sym, ap, subst, _∙_}
+use mathlib.Core.Bool.{true, false}
 use mathlib.Core.List.{List, [], _∷_}
 use mathlib.Core.Logic.{_⊎_, inl, inr, ⊎-elim}
 use Prim.Native.Nat.{ℕ, zero, suc, _+_, _≤_, _<_}
 use native.Mathlib.Omega.{arith}
-use lib.Dec.{leb, eqb, ltb, lit<}
-use lib.ListN.{length, getD, set}
-use Rattle.std.proofs.shelf.Tests.{cases-bool, cases-eq, cases-lt, cond-both, cond-true, le-leb, eqb-true, eqb-false, ne-eqb}
+use lib.Dec.{lit<}
+use lib.ListN.{getD}
+use Rattle.std.proofs.shelf.Tests.{cases-eq, cond-both, le-leb}
 use Rattle.rules.specs.Tests.{every-to, any-to, every, among, is-empty}
 use Rattle.rules.specs.Field.{Field, is-bay-to, is-bay, free-square, bay-ok, sound, beside}
 use Rattle.rules.specs.Route.{step-ok, route-ok}

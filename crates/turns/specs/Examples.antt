@@ -2,7 +2,6 @@
 use mathlib.Core.Path.{_≡_}
 use mathlib.Core.Bool.{true, false}
 use mathlib.Core.List.{[], _∷_}
-use Prim.Native.Nat.{ℕ}
 use Rattle.rules.specs.Field.{Field, sound}
 use Rattle.rules.specs.Memory.{field-in}
 use Rattle.turns.specs.Parts.{at-most-two}

@@ -1,6 +1,6 @@
 -- Coming home by ticks alone: after any row of events, for every choice among the steps that are granted, and so by the rule of ticks.
 use mathlib.Core.Path.{_≡_}
-use mathlib.Core.Bool.{Bool, true, false}
+use mathlib.Core.Bool.{true, false}
 use mathlib.Core.List.{List}
 use mathlib.Core.Logic.{_⊎_}
 use Prim.Native.Nat.{ℕ, zero, suc, _*_, max, _≤_, _<_}
