@@ -47,7 +47,8 @@ module _ (n : ℕ) (left : ℕ → ℕ) (moves due : ℕ → ℕ → Bool) (whos
   falls t (suc m) =
       let h = falls t m in
       let e : left (t + suc m) ≡ left (suc (t + m)) = ap left (omega arith) in
-      ⊎-elim (λ l. let q = r .one-less (t + m) l in omega arith) (λ l. let q = r .as-much (t + m) l in omega arith) (cases-lt (whose (t + m)) n)
+      ⊎-elim (λ l. let q = r .one-less (t + m) l in omega arith) (λ l. let q = r .as-much (t + m) l in omega arith)
+      (cases-lt (whose (t + m)) n)
 
   module _ (d : ℕ) (c : Comes-within n moves due whose d) where
     -- after as many ticks without a grant nobody is on its way

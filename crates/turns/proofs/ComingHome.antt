@@ -53,4 +53,5 @@ module _ (f : Field) (d : ℕ) (h : ℕ → Fleet) (w : ℕ → ℕ → ℕ) (c 
         let len = shorter f d h w c due r i l (t + k) z (ap (λ o. is-empty (o .route)) y ∙ u) in
         let len′ : length (h (t + k) i .route) ≡ length (h t i .route) = ap (λ o. length (o .route)) y in
         let e : suc (t + k) ≡ t + suc k = omega arith in
-        later (n * (p + d) + d) (suc n * (p + d)) (suc k) t (omega arith) (subst (Done (n * (p + d) + d)) e (rest (suc (t + k)) (omega arith))))
+        later (n * (p + d) + d) (suc n * (p + d)) (suc k) t (omega arith)
+        (subst (Done (n * (p + d) + d)) e (rest (suc (t + k)) (omega arith))))

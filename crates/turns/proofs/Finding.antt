@@ -7,14 +7,16 @@ use Prim.Native.Nat.{ℕ, zero, suc, _*_, _≤_, _<_}
 use native.Mathlib.Omega.{arith}
 use lib.Dec.{eqb}
 use lib.ListN.{length, getD}
-use Rattle.std.proofs.shelf.Tests.{both-ways, cases-bool, cases-lt, cond-true, cond-false, cond-both, and-parts, and-from, or-cases, or-left, or-right}
+use Rattle.std.proofs.shelf.Tests.{both-ways, cases-bool, cases-lt, cond-true, cond-false, cond-both, and-parts}
+use Rattle.std.proofs.shelf.Tests.{and-from, or-cases, or-left, or-right}
 use Rattle.std.proofs.shelf.Tests.{not-true, not-from-false, eqb-true, eq-eqb, ltb-true}
 use Rattle.std.specs.Iters.{counting}
 use Rattle.std.proofs.shelf.Lists.{length-map, getD-map}
 use Rattle.std.proofs.shelf.Counted.{length-counting, getD-counting}
 use Rattle.rules.specs.Field.{Field, free-square, beside}
 use Rattle.rules.proofs.Tests.{every-to-tells, every-to-from, any-to-tells, any-to-from}
-use Rattle.turns.specs.Parts.{open-square, linked, Connected, itself, link, back, chain, at-bay, At-most-two, joined, joined-row, joined-all, parts}
+use Rattle.turns.specs.Parts.{open-square, linked, Connected, itself, link, back, chain, at-bay, At-most-two, joined}
+use Rattle.turns.specs.Parts.{joined-row, joined-all, parts}
 use Rattle.turns.specs.Parts.{touches, not-three, never-three, at-most-two}
 use Rattle.turns.specs.Parts.{Parts-are-found, At-most-two-is-found}
 
@@ -102,7 +104,8 @@ module _ (f : Field) where
   unfolding joined-all
   all-links zero d b e ps k o l m h = absurd (omega arith)
   all-links (suc c) d b e ps k o l m h =
-      let before : b < c → getD (joined-all f c d ps) b 0 ≡ getD (joined-all f c d ps) e 0 = λ a. all-links c d b e ps (omega arith) o a m h in
+      let before : b < c → getD (joined-all f c d ps) b 0 ≡ getD (joined-all f c d ps) e 0 = λ a. all-links c d b e ps
+      (omega arith) o a m h in
       let qs = joined-all f c d ps in
       let q = all-long c d ps in
       ⊎-elim (λ a. row-keeps c d qs b e (omega arith) (omega arith) (before a))
@@ -141,7 +144,8 @@ module _ (f : Field) where
           (cases-bool (gets y)))
           (λ (a : gets x ≡ false). ⊎-elim
           (λ (b : gets y ≡ true). let (h, b′) = and-parts (linked f c d) _ b in
-          back y x (across y x m l h (eqb-true _ _ b′) (sym (cond-true _ (number c) (number y) b) ∙ sym e ∙ cond-false _ (number c) (number x) a)))
+          back y x (across y x m l h (eqb-true _ _ b′) (sym (cond-true _ (number c) (number y) b) ∙ sym e ∙ cond-false _ (number c)
+          (number x) a)))
           (λ (b : gets y ≡ false). r x y l m (sym (cond-false _ (number c) (number x) a) ∙ e ∙ cond-false _ (number c) (number y) b))
           (cases-bool (gets y)))
           (cases-bool (gets x))
@@ -177,7 +181,8 @@ parts-are-found f c d l m =
     let q = length-counting 0 n in
     let long = all-long f n n (counting 0 n) in (
       all-right f n n (counting 0 n) (omega arith) (omega arith)
-          (λ x y a b e. let u = getD-counting 0 n x 0 (omega arith) in let v = getD-counting 0 n y 0 (omega arith) in let e′ : x ≡ y = omega arith in subst (Connected f x) e′ (itself x))
+          (λ x y a b e. let u = getD-counting 0 n x 0 (omega arith) in let v = getD-counting 0 n y 0
+          (omega arith) in let e′ : x ≡ y = omega arith in subst (Connected f x) e′ (itself x))
           c d (omega arith) (omega arith),
       one-number f,
     )
@@ -195,7 +200,8 @@ touches-from f i c p a e = any-to-from (λ c. at-bay f i c && eqb (getD (parts f
     (open-below f c (at-bay-tells f i c a .0)) (and-from _ _ a (eq-eqb _ _ e))
 
 -- of three that touch a part two are the same
-pub two-touch : (f : Field) → At-most-two f → (i j k p : ℕ) → i < f .shuttles → j < f .shuttles → k < f .shuttles → touches f (parts f) i p ≡ true →
+pub two-touch : (f : Field) → At-most-two f → (i j k p : ℕ) → i < f .shuttles → j < f .shuttles → k < f .shuttles → touches f
+    (parts f) i p ≡ true →
     touches f (parts f) j p ≡ true → touches f (parts f) k p ≡ true → (i ≡ j) ⊎ ((i ≡ k) ⊎ (j ≡ k))
 two-touch f two i j k p l m o a b e =
     let (x, x₁, x₂) = touches-tells f i p a in
@@ -207,11 +213,13 @@ two-touch f two i j k p l m o a b e =
     same i j x y a b = parts-are-found f x y (open-below f x (at-bay-tells f i x a .0)) (open-below f y (at-bay-tells f j y b .0)) .0
 
 -- the test of three, both ways
-three-tells : (f : Field) (i j k p : ℕ) → not-three f (parts f) i j k p ≡ true → touches f (parts f) i p ≡ true → touches f (parts f) j p ≡ true → touches f (parts f) k p ≡ true →
+three-tells : (f : Field) (i j k p : ℕ) → not-three f (parts f) i j k p ≡ true → touches f (parts f) i p ≡ true → touches f
+    (parts f) j p ≡ true → touches f (parts f) k p ≡ true →
     (i ≡ j) ⊎ ((i ≡ k) ⊎ (j ≡ k))
 unfolding not-three
 three-tells f i j k p h a b e = ⊎-elim
-    (λ q. ⊎-elim (λ z. inl (eqb-true _ _ z)) (λ z. inr (⊎-elim (λ z. inl (eqb-true _ _ z)) (λ z. inr (eqb-true _ _ z)) (or-cases _ _ z))) (or-cases _ _ q))
+    (λ q. ⊎-elim (λ z. inl (eqb-true _ _ z)) (λ z. inr (⊎-elim (λ z. inl (eqb-true _ _ z)) (λ z. inr (eqb-true _ _ z)) (or-cases _ _ z)))
+    (or-cases _ _ q))
     (λ q. absurd (both-ways _ (not-true _ q) (and-from _ _ a (and-from _ _ b e))))
     (or-cases _ _ h)
 
@@ -223,7 +231,8 @@ three-from f i j k p h = ⊎-elim
     let (a, q) = and-parts _ _ t in
     let (b, e) = and-parts _ _ q in
     let same : (eqb i j || (eqb i k || eqb j k)) ≡ true = ⊎-elim (λ z. or-left (eqb i j) _ (eq-eqb i j z))
-    (λ z. or-right (eqb i j) (eqb i k || eqb j k) (⊎-elim (λ z. or-left (eqb i k) _ (eq-eqb i k z)) (λ z. or-right (eqb i k) _ (eq-eqb j k z)) z))
+    (λ z. or-right (eqb i j) (eqb i k || eqb j k) (⊎-elim (λ z. or-left (eqb i k) _ (eq-eqb i k z))
+    (λ z. or-right (eqb i k) _ (eq-eqb j k z)) z))
     (h a b e) in
     or-left (eqb i j || (eqb i k || eqb j k)) _ same)
     (λ (t : (touches f (parts f) i p && (touches f (parts f) j p && touches f (parts f) k p)) ≡ false). or-right _ _ (not-from-false _ t))
@@ -236,8 +245,10 @@ at-most-two-is-found f = (
       let e₁ = one-number f r in
       let e₂ = one-number f q in
       three-tells f i j k (getD (parts f) c 0)
-      (every-to-tells _ _ (every-to-tells _ _ (every-to-tells _ _ (every-to-tells _ _ h i l) j m) k o) c (open-below f c (at-bay-tells f i c a .0)))
-      (touches-from f i c (getD (parts f) c 0) a refl) (touches-from f j d (getD (parts f) c 0) b (sym e₁)) (touches-from f k e (getD (parts f) c 0) z (sym e₂ ∙ sym e₁)),
+      (every-to-tells _ _ (every-to-tells _ _ (every-to-tells _ _ (every-to-tells _ _ h i l) j m) k o) c
+      (open-below f c (at-bay-tells f i c a .0)))
+      (touches-from f i c (getD (parts f) c 0) a refl) (touches-from f j d (getD (parts f) c 0) b (sym e₁))
+      (touches-from f k e (getD (parts f) c 0) z (sym e₂ ∙ sym e₁)),
   λ two. every-to-from _ _ (λ i l. every-to-from _ _ (λ j m. every-to-from _ _ (λ k o. every-to-from _ _ (λ c _.
       three-from f i j k (getD (parts f) c 0) (two-touch f two i j k (getD (parts f) c 0) l m o))))),
 )

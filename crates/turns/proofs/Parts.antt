@@ -63,7 +63,8 @@ module _ (f : Field) where
       (λ (o : open-square f d ≡ true). inr (
         o,
         ⊎-elim
-            (λ (e : c ≡ f .bay i). touches-from f i d (getD (parts f) d 0) (and-from _ _ o (subst (λ x. beside f x d ≡ true) e (s .next-to))) refl)
+            (λ (e : c ≡ f .bay i). touches-from f i d (getD (parts f) d 0)
+            (and-from _ _ o (subst (λ x. beside f x d ≡ true) e (s .next-to))) refl)
             (λ (q : (open-square f c ≡ true) × (touches f (parts f) i (getD (parts f) c 0) ≡ true)).
             subst (λ p. touches f (parts f) i p ≡ true) (one-part-of c d (q .0) o (s .next-to)) (q .1))
             m,
@@ -78,7 +79,8 @@ module _ (f : Field) where
   one-part i c [] o h x a = absurd (both-ways false refl a)
   one-part i c (d ∷ ds) o h x a =
       let s = route-tells f i c d ds h in
-      let rest : open-square f d ≡ true → among x ds ≡ true → (x ≡ f .bay i) ⊎ ((open-square f x ≡ true) × (getD (parts f) x 0 ≡ getD (parts f) d 0)) = λ o′ a′.
+      let rest : open-square f d ≡ true → among x ds ≡ true → (x ≡ f .bay i) ⊎
+      ((open-square f x ≡ true) × (getD (parts f) x 0 ≡ getD (parts f) d 0)) = λ o′ a′.
       one-part i d ds o′ (s .after) x a′ in
       ⊎-elim
       (λ (o′ : open-square f d ≡ true).
@@ -87,7 +89,8 @@ module _ (f : Field) where
       (λ q. let z = eqb-true x d q in inr (subst (λ y. open-square f y ≡ true) (sym z) o′, ap (λ y. getD (parts f) y 0) z ∙ e))
       (λ q. ⊎-elim inl (λ (b : (open-square f x ≡ true) × (getD (parts f) x 0 ≡ getD (parts f) d 0)). inr (b .0, b .1 ∙ e)) (rest o′ q))
       (or-cases _ _ a))
-      (λ (b : (d ≡ f .bay i) × (is-empty ds ≡ true)). ⊎-elim (λ q. inl (eqb-true x d q ∙ b .0)) (λ q. absurd (none ds (b .1) q)) (or-cases _ _ a))
+      (λ (b : (d ≡ f .bay i) × (is-empty ds ≡ true)). ⊎-elim (λ q. inl (eqb-true x d q ∙ b .0)) (λ q. absurd (none ds (b .1) q))
+      (or-cases _ _ a))
       (next-is f i c d ds h)
     where
       none : (ds : List ℕ) → is-empty ds ≡ true → among x ds ≡ true → ⊥
@@ -126,7 +129,8 @@ module _ (f : Field) where
       let len = ap length (h .left) in
       let o = q .short in
       record {
-        here = step-own i (s .at) (stepped s .at) (stepped s .route) (subst (λ r. route-ok f i (s .at) r ≡ true) (h .left) (p .on-route)) (q .here);
+        here = step-own i (s .at) (stepped s .at) (stepped s .route) (subst (λ r. route-ok f i (s .at) r ≡ true) (h .left) (p .on-route))
+            (q .here);
         from = subst (Own f i) (sym (h .from)) (q .here);
         short = omega arith;
       }
@@ -145,7 +149,8 @@ module _ (f : Field) where
       let before : (i : ℕ) → i < f .shuttles → Placed-own i (g i) = placed-own ok es in
       cond-both (grants f g j) (put g j (stepped (g j))) g (λ h. Placed-own i (h i))
       (λ e. let t = grants-tells f g j e in put-each (λ a s. a < f .shuttles → Placed-own a s) g j (stepped (g j))
-      (λ m. placed-own-stepped j (g j) (good-after f ok es .each j m) (t .something-left) (before j m)) (λ a _. before a) i l) (λ _. before i l)
+      (λ m. placed-own-stepped j (g j) (good-after f ok es .each j m) (t .something-left) (before j m)) (λ a _. before a) i l)
+      (λ _. before i l)
   placed-own ok (arrive j ∷ es) i l =
       let g = after f es in
       let before : (i : ℕ) → i < f .shuttles → Placed-own i (g i) = placed-own ok es in
@@ -184,8 +189,10 @@ clear-granted f g p i l m e q =
       something-left = e;
       granted = may-free shuttles n g i (next-square (g i .route) ∷ []) (stepped (g i))
           (λ j b c z. or-left-in c (g j) z) (p .all-go) l
-          (free (next-square (g i .route) ∷ []) (λ c z. subst (λ r. among c r ≡ true) (sym (h .left)) (let t = h .to in grind (arith, tells))))
-          (free (stepped (g i) .route) (λ c z. subst (λ r. among c r ≡ true) (sym (h .left)) (or-right _ _ (sym (among-is c (stepped (g i) .route)) ∙ z))))
+          (free (next-square (g i .route) ∷ []) (λ c z. subst (λ r. among c r ≡ true) (sym (h .left))
+          (let t = h .to in grind (arith, tells))))
+          (free (stepped (g i) .route) (λ c z. subst (λ r. among c r ≡ true) (sym (h .left))
+          (or-right _ _ (sym (among-is c (stepped (g i) .route)) ∙ z))))
           (λ k b. absurd (omega arith));
     })
   where
@@ -193,5 +200,6 @@ clear-granted f g p i l m e q =
     or-left-in c s z = let t : eqb c (s .at) ≡ true = grind (arith, tells) in or-left _ _ t
 
 -- no two that can go block each other
-pub no-pair : {n : ℕ} {w : ℕ → ℕ → Bool} {k : ℕ → Bool} {i : ℕ} → CanGo n w k i → (j : ℕ) → j < n → (i ≡ j → ⊥) → w i j ≡ true → w j i ≡ true → ⊥
+pub no-pair : {n : ℕ} {w : ℕ → ℕ → Bool} {k : ℕ → Bool} {i : ℕ} → CanGo n w k i → (j : ℕ) → j < n → (i ≡ j → ⊥) → w i j ≡ true →
+    w j i ≡ true → ⊥
 no-pair (goes i l c b) j m ne e e′ = no-pair (b j m ne e) i l (λ q. ne (sym q)) e′ e

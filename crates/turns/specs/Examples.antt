@@ -1,4 +1,5 @@
--- Fields of both kinds: one in which each part touches at most two bays, and the one in which somebody starves, in which a part touches three.
+-- Fields of both kinds: one in which each part touches at most two bays, and the one in which somebody starves, in which a part touches
+-- three.
 use mathlib.Core.Path.{_≡_}
 use mathlib.Core.Bool.{true, false}
 use mathlib.Core.List.{[], _∷_}
