@@ -255,6 +255,13 @@ good (suc zero) l = refl
 good (suc (suc zero)) l = refl
 good (suc (suc (suc i))) l = absurd (omega arith)
 
+due-now : (i : ℕ) → i < 3 → is-due (1 ∷ 1 ∷ 1 ∷ []) i ≡ true
+unfolding is-due
+due-now zero l = refl
+due-now (suc zero) l = refl
+due-now (suc (suc zero)) l = refl
+due-now (suc (suc (suc i))) l = absurd (omega arith)
+
 again-same : (t : ℕ) → hall (6 + (t + 8)) .fleet ≡ hall (6 + t) .fleet
 again-same t =
     let e : t + 8 ≡ suc (suc (suc (suc (suc (suc (suc (suc t))))))) = omega arith in
@@ -267,6 +274,7 @@ pub starves : Starves
 unfolding all-open phase
 starves = record {
   field-sound = refl;
+  within = λ t i l _ _. (0, lit< tt, due-now i l);
   ways-good = good;
   others-go = others;
   stands = from-six (λ s. (s .fleet 0 .at ≡ 3) × (s .fleet 0 .moving ≡ false) × (s .fleet 0 .route ≡ way 0))

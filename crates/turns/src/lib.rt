@@ -37,14 +37,15 @@ pub fn longest_first_stands() -> u8
     0
 }
 
-// Where arrivals come within d ticks and nothing is stuck, all is done after (left + 1) times d ticks.
+// Where arrivals come within d ticks and nothing is stuck, all is done after (left + 1) · max(d, 1) ticks.
 pub fn all_done_in_time_stands() -> u8
     ensures { λ _. ⌜ All-done-in-time ⌝ }
 {
     0
 }
 
-// By ticks alone, whichever granted steps are chosen, all are home after (squares left + 1) times d ticks.
+// By ticks alone, whichever granted steps are chosen, all are home after (squares left + 1) · max(d, 1)
+// ticks.
 pub fn home_in_time_stands() -> u8
     ensures { λ _. ⌜ Home-in-time ⌝ }
 {
