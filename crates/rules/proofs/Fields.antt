@@ -6,6 +6,7 @@ use Prim.Native.Nat.{ℕ, _*_, _≤_, _<_}
 use native.Mathlib.Omega.{arith}
 use lib.Dec.{ltb, leb, eqb}
 use lib.ListN.{length, getD}
+use Rattle.std.proofs.shelf.Bits.{mul-le}
 use Rattle.std.proofs.shelf.Tests.{and-parts, and-from, leb-true, eqb-true, ltb-true, not-true}
 use Rattle.rules.specs.Tests.{every, every-to}
 use Rattle.rules.specs.Field.{Field, sound, bay-ok, free-square, is-bay-to}
@@ -42,6 +43,8 @@ pub record Accepted (a d : ℕ) (ws bs : List ℕ) : Type 0 where
   pub is-sound : sound (field-in a d ws bs) ≡ true
   pub across-least : 1 ≤ a
   pub down-least : 1 ≤ d
+  pub squares-least : 1 ≤ a * d
+  pub squares-most : a * d ≤ 4096
 
 pub accepted : (a d : ℕ) (ws bs : List ℕ) → field-ok a d ws bs ≡ true → Accepted a d ws bs
 unfolding field-ok field-in
@@ -61,4 +64,6 @@ accepted a d ws bs h =
       is-sound = p5 .1;
       across-least = s .wide;
       down-least = s .deep;
+      squares-least = mul-le 1 1 a d (s .wide) (s .deep);
+      squares-most = mul-le a d 64 64 (leb-true _ _ (p1 .0)) (leb-true _ _ (p2 .0));
     }

@@ -30,11 +30,11 @@ fn through(field: &Field, home: u16, from: u16, row: &[u16], made: &mut [u16]) -
 
 // The first, by right, down, left, up, of the shortest routes of a shuttle from a square through a row of squares, in the order of the row.
 // It is written to the front of `route`, whose other places stay as they were; nothing is written if there is none.
-pub fn way<'a>(
+pub fn way(
     across: u64,
     down: u64,
-    walls: &'a [u8],
-    bays: &'a [u16],
+    walls: &[u8],
+    bays: &[u16],
     shuttle: u64,
     from: u16,
     row: &[u16],

@@ -5,8 +5,8 @@ use field::Field;
 
 // `last` says that nothing but the goal itself is left with it, so that the goal may be the bay.
 #[derive(Clone, Copy)]
-pub struct Leg<'a> {
-    pub field: Field<'a>,
+pub struct Leg<'a, 'b> {
+    pub field: Field<'a, 'b>,
     pub start: u16,
     pub goal: u16,
     pub last: bool,
