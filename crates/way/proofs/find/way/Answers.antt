@@ -1,14 +1,13 @@
 -- What is turned away has its number; the way that was led is the first of the shortest, and is written to the front of the route.
-use mathlib.Core.Path.{_≡_, refl, sym, ap, subst, _∙_}
+use mathlib.Core.Path.{_≡_, refl, sym, ap, _∙_}
 use mathlib.Core.List.{List, [], _∷_, _++_}
-use Prim.Native.Nat.{ℕ, _+_, _-_, _*_, _<_, _≤_}
+use Prim.Native.Nat.{ℕ, _-_, _<_, _≤_}
 use native.Mathlib.Omega.{arith}
 use borrow.Rule.Slice.PartMut.{postOf, post-is}
 use lib.ListN.{length, getD, take, drop}
 use Rattle.std.proofs.shelf.Lists.{length-take-le}
 use Rattle.rules.specs.Field.{Field}
-use Rattle.rules.specs.Memory.{field-in, field-ok}
-use Rattle.field.specs.declared.field.Field.{Field as Lent}
+use Rattle.rules.specs.Memory.{field-in}
 use Rattle.ways.proofs.Leg.{Best}
 use Rattle.ways.proofs.Led.{shortest-from-best, nowhere-from-far, ends-push}
 use Rattle.ways.proofs.Asked.{refused-field, refused-shuttle, refused-asked, refused-not, asked-tells}

@@ -2,13 +2,12 @@
 use mathlib.Core.Path.{_≡_, refl, sym, ap, _∙_}
 use mathlib.Core.List.{List}
 use mathlib.Core.Logic.{⊎-elim}
-use Prim.Native.Nat.{ℕ, _<_}
+use Prim.Native.Nat.{ℕ}
 use native.Mathlib.Omega.{arith}
-use lib.ListN.{length, getD, replicate}
+use lib.ListN.{replicate}
 use Rattle.std.proofs.shelf.Lists.{getD-replicate, getD-past, length-replicate}
 use Rattle.std.proofs.shelf.Tests.{cases-lt}
 use Rattle.rules.specs.Memory.{field-in}
-use Rattle.field.specs.Model.{field-of}
 use Rattle.ways.proofs.Expand.{distance-in}
 use Rattle.ways.proofs.Marks.{free-none, free-yes, free-not, open-none, open-more, open-all}
 use Rattle.way.proofs.Size.{sizes, bay-below}

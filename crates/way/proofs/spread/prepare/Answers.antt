@@ -1,8 +1,8 @@
 -- The table of a leg is the ground's with the start and the goal written.
-use mathlib.Core.Bool.{Bool, true, false, _&&_, _||_}
-use mathlib.Core.Path.{_≡_, refl, sym, ap, subst, _∙_}
+use mathlib.Core.Bool.{Bool, true, _&&_}
+use mathlib.Core.Path.{_≡_, sym, ap, _∙_}
 use mathlib.Core.List.{List}
-use Prim.Native.Nat.{ℕ, _<_}
+use Prim.Native.Nat.{ℕ}
 use native.Mathlib.Omega.{arith}
 use lib.ListN.{length, getD, set}
 use Rattle.std.proofs.shelf.Lists.{getD-default, getD-set-same, getD-set-other, length-set}
@@ -11,7 +11,7 @@ use Rattle.rules.specs.Field.{free-square}
 use Rattle.field.specs.Model.{field-of}
 use Rattle.ways.proofs.Good.{enter}
 use Rattle.ways.proofs.Expand.{distance-in}
-use Rattle.ways.proofs.Ground.{Ground, is-open, ground-prepared, ground-open, ground-shut, goal-open}
+use Rattle.ways.proofs.Ground.{ground-prepared, ground-open, ground-shut, goal-open}
 use Rattle.way.specs.declared.leg.Leg.{Leg}
 use Rattle.way.specs.Table.{Ready, OverGround}
 use Rattle.way.proofs.Size.{start-below, goal-below}
