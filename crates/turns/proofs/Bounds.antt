@@ -1,5 +1,5 @@
 -- The bound on coming home: from one grant to the next at most so many ticks pass, and so many more until the last has arrived.
-use mathlib.Core.Path.{_≡_, refl, sym, ap, subst, _∙_}
+use mathlib.Core.Path.{_≡_, refl, ap, subst, _∙_}
 use mathlib.Core.Bool.{Bool, true, false}
 use mathlib.Core.Logic.{_⊎_, inl, inr, ⊎-elim}
 use Prim.Native.Nat.{ℕ, zero, suc, _+_, _*_, _-_, max, _≤_, _<_}
@@ -7,7 +7,7 @@ use native.Mathlib.Omega.{arith}
 use lib.Dec.{ltb}
 use Rattle.std.proofs.shelf.Tests.{both-ways, cases-lt, ltb-true, ltb-false}
 use Rattle.agents.proofs.Tests.{some-below, false-from}
-use Rattle.turns.specs.Bound.{Ticking, Begins, Comes-within, All-done-in-time}
+use Rattle.turns.specs.Bound.{Ticking, Comes-within, All-done-in-time}
 
 -- whoever is on its way at any time is due within the next d ticks
 pub due-soon : (n : ℕ) (moves due : ℕ → ℕ → Bool) (whose : ℕ → ℕ) (d : ℕ) →
@@ -47,7 +47,8 @@ module _ (n : ℕ) (left : ℕ → ℕ) (moves due : ℕ → ℕ → Bool) (whos
   falls t (suc m) =
       let h = falls t m in
       let e : left (t + suc m) ≡ left (suc (t + m)) = ap left (omega arith) in
-      ⊎-elim (λ l. let q = r .one-less (t + m) l in omega arith) (λ l. let q = r .as-much (t + m) l in omega arith) (cases-lt (whose (t + m)) n)
+      ⊎-elim (λ l. let q = r .one-less (t + m) l in omega arith) (λ l. let q = r .as-much (t + m) l in omega arith)
+      (cases-lt (whose (t + m)) n)
 
   module _ (d : ℕ) (c : Comes-within n moves due whose d) where
     -- after as many ticks without a grant nobody is on its way

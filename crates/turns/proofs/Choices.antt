@@ -1,6 +1,6 @@
 -- The fleets at the choices of a row of ticks, and how they follow each other.
 use mathlib.Core.Path.{_≡_, refl, sym, ap, subst, _∙_}
-use mathlib.Core.Bool.{Bool, true, false, not, cond, _&&_}
+use mathlib.Core.Bool.{Bool, true, false, cond, _&&_}
 use mathlib.Core.Logic.{_⊎_, ⊎-elim}
 use Prim.Native.Nat.{ℕ, zero, suc, _+_, _≤_, _<_}
 use native.Mathlib.Omega.{arith}
@@ -73,12 +73,18 @@ module _ (f : Field) (d : ℕ) (h : ℕ → Fleet) (w : ℕ → ℕ → ℕ) (c 
   stops-by k t v more = ⊎-elim
       (λ (g : (h (suc t) i ≡ h t i) × (due (suc t) i ≡ false)). more (g .0) (g .1))
       (λ (g : h (suc t) i ≡ arrived (h t i)).
-      let z : suc t ≡ t + 1 = omega arith in
-      (1, omega arith, subst (λ u. h u i .moving ≡ false) z (ap (λ o. o .moving) g), subst (λ u. h u i .route ≡ h t i .route) z (ap (λ o. o .route) g)))
+      let z : suc t ≡ t + 1 = omega arith in (
+        1,
+        omega arith,
+        subst (λ u. h u i .moving ≡ false) z (ap (λ o. o .moving) g),
+        subst (λ u. h u i .route ≡ h t i .route) z
+            (ap (λ o. o .route) g),
+      ))
       (r .driving t i l v)
 
   pub stops : (k t : ℕ) → h t i .moving ≡ true → due (t + suc k) i ≡ true → Stood (suc k) t
-  stops zero t v q = stops-by zero t v (λ g o. let z : t + 1 ≡ suc t = omega arith in absurd (both-ways _ o (subst (λ u. due u i ≡ true) z q)))
+  stops zero t v q = stops-by zero t v (λ g o. let z : t + 1 ≡ suc t = omega arith in absurd
+      (both-ways _ o (subst (λ u. due u i ≡ true) z q)))
   stops (suc k) t v q =
       let rest : h (suc t) i .moving ≡ true → due (suc t + suc k) i ≡ true → Stood (suc k) (suc t) = stops k (suc t) in
       stops-by (suc k) t v (λ g o.

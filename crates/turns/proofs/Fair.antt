@@ -1,12 +1,14 @@
 -- The one that has waited longest goes first, so whoever could go in each tick gets its turn. There are n agents; `w t i` is how long agent i
 -- has waited at the choice of tick t, and `c t` is the one chosen.
-use mathlib.Core.Path.{_≡_, refl, sym, ap, subst, _∙_}
+use mathlib.Core.Path.{_≡_, refl, subst}
 use mathlib.Core.Bool.{Bool, true, false, not, cond, _&&_}
 use mathlib.Core.Logic.{_⊎_, inl, inr, ⊎-elim}
 use Prim.Native.Nat.{ℕ, zero, suc, _+_, _≤_, _<_}
 use native.Mathlib.Omega.{arith}
 use lib.Dec.{eqb, leb}
-use Rattle.std.proofs.shelf.Tests.{both-ways, cases-bool, cases-eq, cases-lt, and-parts, and-from, not-true, not-from-false, ne-eqb, eqb-false, le-leb, leb-true, lt-leb, and-left, eq-eqb, and-right, not-from-true}
+use Rattle.std.proofs.shelf.Tests.{cases-bool, cases-eq, cases-lt, and-parts, and-from, not-true, not-from-false}
+use Rattle.std.proofs.shelf.Tests.{ne-eqb, eqb-false, le-leb, leb-true, lt-leb, and-left, eq-eqb, and-right}
+use Rattle.std.proofs.shelf.Tests.{not-from-true}
 
 -- how many numbers below n pass the test
 number-of : (ℕ → Bool) → ℕ → ℕ

@@ -7,6 +7,7 @@ pub mod Fair
 pub mod Finding
 pub mod Parts
 pub mod Choices
-pub mod Patience
-pub mod Comings
+pub mod Serving
+pub mod ComingHome
 pub mod Nights
+pub mod Examples

@@ -1,20 +1,21 @@
 -- One that never gets a step: the eight states that the hall goes through, again and again.
-use mathlib.Core.Path.{_≡_, refl, sym, ap, subst, fun-ext, _∙_}
-use mathlib.Core.Bool.{Bool, true, false, cond}
+use mathlib.Core.Path.{_≡_, refl, sym, ap, subst, _∙_}
+use mathlib.Core.Bool.{true, false}
 use mathlib.Core.List.{List, [], _∷_}
 use mathlib.Core.Logic.{_⊎_, inl, inr, ⊎-elim}
 use Prim.Native.Nat.{ℕ, zero, suc, _+_, _≤_, _<_}
 use native.Mathlib.Omega.{arith}
-use lib.Dec.{leb, eqb, ltb, lit<}
-use lib.ListN.{length, getD, set}
-use Rattle.std.proofs.shelf.Tests.{cases-bool, cases-eq, cases-lt, cond-both, cond-true, le-leb, eqb-true, eqb-false, ne-eqb}
+use lib.Dec.{lit<}
+use lib.ListN.{getD}
+use Rattle.std.proofs.shelf.Tests.{cases-eq, cond-both, le-leb}
 use Rattle.rules.specs.Tests.{every-to, any-to, every, among, is-empty}
 use Rattle.rules.specs.Field.{Field, is-bay-to, is-bay, free-square, bay-ok, sound, beside}
 use Rattle.rules.specs.Route.{step-ok, route-ok}
 use Rattle.rules.specs.Shuttle.{Shuttle, Fleet, holds, held-by-other, put, at-home, ordered, next-square, stepped-to, stepped, arrived}
 use Rattle.rules.specs.Safe.{clear-of, all-to, without, first-clear, on-first, try, safe}
 use Rattle.rules.specs.Event.{order, step, arrive, takes, grants, arrives, does, who, becomes, happens}
-use Rattle.turns.specs.Tick.{is-due, come, come-to, all-come, waits, one-more, counted-to, counted, better, chosen-to, chosen, Turn, granted-to, choose, tick}
+use Rattle.turns.specs.Tick.{is-due, come, come-to, all-come, waits, one-more, counted-to, counted, better, chosen-to}
+use Rattle.turns.specs.Tick.{chosen, Turn, granted-to, choose, tick}
 use Rattle.turns.specs.Night.{give, give-to, all-given, next, night}
 use Rattle.turns.specs.Starving.{corner, way, since, again, at-once, hall, Starves}
 use Rattle.turns.proofs.Ticks.{none-granted, not-done}
@@ -46,7 +47,8 @@ module _ (f : Field) (i : ℕ) (l : f .shuttles ≤ i) where
       let g = all-given f (s .fleet) routes in
       let h = all-come f g marks in
       let w = chosen f h (counted f h (s .waits)) in
-      let rest : h i ≡ s .fleet i = come-beyond g marks (f .shuttles) (omega arith) ∙ given-beyond (s .fleet) routes (f .shuttles) (omega arith) in
+      let rest : h i ≡ s .fleet i = come-beyond g marks (f .shuttles) (omega arith) ∙ given-beyond (s .fleet) routes (f .shuttles)
+      (omega arith) in
       ⊎-elim
       (λ (e : w ≡ i). ap (λ x. x i) (not-done f h (step w) (none-granted f h w (omega arith))) ∙ rest)
       (λ (ne : w ≡ i → ⊥). others-stay f h (step w) i (λ e. ne (sym e)) ∙ rest)
@@ -102,9 +104,21 @@ below-8 P x0 x1 x2 x3 x4 x5 x6 x7 (suc (suc (suc (suc (suc (suc zero)))))) l = x
 below-8 P x0 x1 x2 x3 x4 x5 x6 x7 (suc (suc (suc (suc (suc (suc (suc zero))))))) l = x7
 below-8 P x0 x1 x2 x3 x4 x5 x6 x7 (suc (suc (suc (suc (suc (suc (suc (suc p)))))))) l = absurd (omega arith)
 
--- what a computation has to open
+-- what a computation has to open: of the field and the routes, of the shuttles and their steps, of the ticks
+field-open : ℕ
+unfolding every-to any-to every among is-empty is-bay-to is-bay free-square bay-ok sound beside step-ok route-ok corner way
+field-open = 0
+
+shuttles-open : ℕ
+unfolding holds held-by-other put at-home ordered next-square stepped-to stepped arrived clear-of all-to without first-clear on-first try safe
+shuttles-open = 0
+
+events-open : ℕ
+unfolding takes grants arrives does who becomes happens is-due come come-to all-come waits one-more counted-to counted better chosen-to
+events-open = 0
+
 all-open : ℕ
-unfolding every-to any-to every among is-empty is-bay-to is-bay free-square bay-ok sound beside step-ok route-ok holds held-by-other put at-home ordered next-square stepped-to stepped arrived clear-of all-to without first-clear on-first try safe takes grants arrives does who becomes happens is-due come come-to all-come waits one-more counted-to counted better chosen-to chosen granted-to choose tick give give-to all-given next corner way at-once
+unfolding field-open shuttles-open events-open chosen granted-to choose tick give give-to all-given next at-once
 all-open = 0
 
 -- a tick leads from one such turn to another, if it does so at the three shuttles, and in the waits and the choice
@@ -164,7 +178,8 @@ one-on : (t : ℕ) (s s′ : Turn) → hall t ≡ s → next corner s (again t) 
 unfolding hall night at-once
 one-on t s s′ e n = ap (λ x. next corner x (again t) (at-once 0)) e ∙ n
 
-first-six : (hall 1 ≡ at-early 1) × (hall 2 ≡ at-early 2) × (hall 3 ≡ at-early 3) × (hall 4 ≡ at-early 4) × (hall 5 ≡ at-early 5) × (hall 6 ≡ at-phase 0 1)
+first-six : (hall 1 ≡ at-early 1) × (hall 2 ≡ at-early 2) × (hall 3 ≡ at-early 3) × (hall 4 ≡ at-early 4) × (hall 5 ≡ at-early 5) ×
+    (hall 6 ≡ at-phase 0 1)
 unfolding all-open again since
 first-six =
     let e1 = one-on 0 (at-early 0) (at-early 1) begins (made (at-early 0) (at-early 1) (again 0) (λ _. refl) refl refl refl refl refl) in
@@ -192,7 +207,8 @@ phase (suc t) = after-phase (phase t)
 phase-below : (t : ℕ) → phase t < 8
 unfolding phase
 phase-below zero = lit< tt
-phase-below (suc t) = below-8 (λ p. after-phase p < 8) (lit< tt) (lit< tt) (lit< tt) (lit< tt) (lit< tt) (lit< tt) (lit< tt) (lit< tt) (phase t) (phase-below t)
+phase-below (suc t) = below-8 (λ p. after-phase p < 8) (lit< tt) (lit< tt) (lit< tt) (lit< tt) (lit< tt) (lit< tt) (lit< tt) (lit< tt)
+    (phase t) (phase-below t)
 
 phase-again : (t : ℕ) → phase (suc (suc (suc (suc (suc (suc (suc (suc t)))))))) ≡ phase t
 unfolding phase
@@ -206,7 +222,8 @@ unfolding phase
 hall-is zero = first-six .5
 hall-is (suc t) =
     let n : ℕ = 6 + t in
-    ap hall (the (6 + suc t) (suc n) (omega arith)) ∙ one-on n (at-phase (phase t) (suc t)) (at-phase (after-phase (phase t)) (suc (suc t))) (hall-is t)
+    ap hall (the (6 + suc t) (suc n) (omega arith)) ∙ one-on n (at-phase (phase t) (suc t))
+    (at-phase (after-phase (phase t)) (suc (suc t))) (hall-is t)
     (later n (at-phase (phase t) (suc t)) (omega arith) ∙ turns-on (suc t) (phase t) (phase-below t))
   where
     the : (x y : ℕ) → x ≡ y → x ≡ y
@@ -228,7 +245,8 @@ others (suc (suc (suc (suc zero)))) = inr (ap (λ s. s .whose) (first-six .4))
 others (suc (suc (suc (suc (suc t))))) =
     let e : 6 + t ≡ suc (suc (suc (suc (suc (suc t))))) = omega arith in
     subst (λ n. Other (hall n .whose)) e (from-six (λ s. Other (s .whose))
-    (λ u. below-8 (λ p. Other (at-phase p u .whose)) (inl refl) (inl refl) (inr refl) (inl refl) (inr refl) (inl refl) (inr refl) (inr refl)) t)
+    (λ u. below-8 (λ p. Other (at-phase p u .whose)) (inl refl) (inl refl) (inr refl) (inl refl) (inr refl) (inl refl) (inr refl)
+    (inr refl)) t)
 
 good : (i : ℕ) → i < 3 → route-ok corner i (corner .bay i) (way i) ≡ true
 unfolding all-open
@@ -237,17 +255,26 @@ good (suc zero) l = refl
 good (suc (suc zero)) l = refl
 good (suc (suc (suc i))) l = absurd (omega arith)
 
+due-now : (i : ℕ) → i < 3 → is-due (1 ∷ 1 ∷ 1 ∷ []) i ≡ true
+unfolding is-due
+due-now zero l = refl
+due-now (suc zero) l = refl
+due-now (suc (suc zero)) l = refl
+due-now (suc (suc (suc i))) l = absurd (omega arith)
+
 again-same : (t : ℕ) → hall (6 + (t + 8)) .fleet ≡ hall (6 + t) .fleet
 again-same t =
     let e : t + 8 ≡ suc (suc (suc (suc (suc (suc (suc (suc t))))))) = omega arith in
     ap (λ s. s .fleet) (hall-is (t + 8)) ∙ ap (λ p. at-phase p (suc (t + 8)) .fleet) (ap phase e ∙ phase-again t)
-    ∙ below-8 (λ p. at-phase p (suc (t + 8)) .fleet ≡ at-phase p (suc t) .fleet) refl refl refl refl refl refl refl refl (phase t) (phase-below t)
+    ∙ below-8 (λ p. at-phase p (suc (t + 8)) .fleet ≡ at-phase p (suc t) .fleet) refl refl refl refl refl refl refl refl (phase t)
+    (phase-below t)
     ∙ ap (λ s. s .fleet) (sym (hall-is t))
 
 pub starves : Starves
 unfolding all-open phase
 starves = record {
   field-sound = refl;
+  within = λ t i l _ _. (0, lit< tt, due-now i l);
   ways-good = good;
   others-go = others;
   stands = from-six (λ s. (s .fleet 0 .at ≡ 3) × (s .fleet 0 .moving ≡ false) × (s .fleet 0 .route ≡ way 0))

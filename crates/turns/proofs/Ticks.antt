@@ -1,24 +1,26 @@
 -- What a tick does: arrivals, waits, the choice; and that it is a row of events.
 use mathlib.Core.Path.{_≡_, refl, sym, ap, subst, _∙_}
-use mathlib.Core.Bool.{Bool, true, false, cond, not, _&&_, _||_}
+use mathlib.Core.Bool.{true, false, cond, _&&_}
 use mathlib.Core.List.{List, [], _∷_, _++_}
 use mathlib.Core.Logic.{_⊎_, inl, inr, ⊎-elim}
 use Prim.Native.Nat.{ℕ, zero, suc, _≤_, _<_}
 use native.Mathlib.Omega.{arith}
 use lib.Dec.{ltb, eqb}
 use lib.ListN.{length, getD, set}
-use Rattle.std.proofs.shelf.Tests.{both-ways, cases-bool, cases-eq, cases-lt, and-parts, and-from, and-cases, or-cases, or-parts, or-left, and-left}
-use Rattle.std.proofs.shelf.Tests.{cond-true, cond-false, lt-ltb, le-ltb, ltb-true, ltb-false, eqb-true, eqb-false, eq-eqb, ne-eqb}
+use Rattle.std.proofs.shelf.Tests.{both-ways, cases-bool, cases-eq, cases-lt, and-parts, and-from, and-cases, or-cases}
+use Rattle.std.proofs.shelf.Tests.{or-parts, or-left, and-left}
+use Rattle.std.proofs.shelf.Tests.{cond-true, cond-false, lt-ltb, le-ltb, ltb-true, ltb-false, eqb-true, eq-eqb}
 use Rattle.std.proofs.shelf.Lists.{length-set, getD-set-same, getD-set-other}
 use Rattle.std.proofs.shelf.Ways.{tells}
 use Rattle.rules.specs.Field.{Field}
-use Rattle.rules.specs.Shuttle.{Shuttle, Fleet, put, arrived}
-use Rattle.rules.specs.Event.{Event, order, step, arrive, grants, arrives, does, who, becomes, happens, after}
+use Rattle.rules.specs.Shuttle.{Fleet, put, arrived}
+use Rattle.rules.specs.Event.{Event, step, arrive, grants, arrives, does, who, becomes, happens, after}
 use Rattle.agents.specs.Kinds.{put as with-agent}
 use Rattle.agents.proofs.Fleets.{put-here, put-other}
 use Rattle.promise.specs.Promise.{no-order, Drives, nothing, then}
-use Rattle.turns.specs.Tick.{is-due, come, come-to, all-come, waits, one-more, counted-to, counted, better, chosen-to, chosen, Turn, granted-to, choose, tick}
-use Rattle.turns.specs.Rows.{due-arrival, due-arrivals, Is-row, Ticks-are-rows, Due-come, Waits-count, Longest-first}
+use Rattle.turns.specs.Tick.{is-due, come, come-to, all-come, waits, one-more, counted-to, counted, better, chosen-to}
+use Rattle.turns.specs.Tick.{chosen, granted-to, choose, tick}
+use Rattle.turns.specs.Rows.{due-arrival, due-arrivals, Ticks-are-rows, Due-come, Waits-count, Longest-first}
 
 -- an arrival of one that does not move changes nothing, and of one that moves only that one
 pub arrive-makes : (f : Field) (g : Fleet) (i : ℕ) → i < f .shuttles → (j : ℕ) →
@@ -70,7 +72,8 @@ module _ (f : Field) (g : Fleet) (marks : List ℕ) where
       (λ (b : (i < k → (is-due marks i && g i .moving) ≡ false) × (h i ≡ g i)).
       inr (
         λ a. ⊎-elim b.0 (λ (o : k ≤ i). let q : i ≡ k = omega arith in let m = t .0 q in
-            let m′ : g i .moving ≡ false = ap (λ x. g x .moving) q ∙ ap (λ s. s .moving) (sym here) ∙ m in grind (arith, tells)) (cases-lt i k),
+            let m′ : g i .moving ≡ false = ap (λ x. g x .moving) q ∙ ap (λ s. s .moving) (sym here) ∙ m in grind (arith, tells))
+            (cases-lt i k),
         ap (λ x. x i) e ∙ t .1 ∙ b .1,
       ))
       (before i))
@@ -78,7 +81,8 @@ module _ (f : Field) (g : Fleet) (marks : List ℕ) where
       (λ (d : is-due marks k ≡ false).
       let e : come-to f g marks (suc k) ≡ h = cond-false _ (happens f h (arrive k)) h d in
       ⊎-elim
-      (λ (b : (i < k) × (is-due marks i ≡ true) × (g i .moving ≡ true) × (h i ≡ arrived (g i))). inl (omega arith, b .1, b .2, ap (λ x. x i) e ∙ b .3))
+      (λ (b : (i < k) × (is-due marks i ≡ true) × (g i .moving ≡ true) × (h i ≡ arrived (g i))). inl
+      (omega arith, b .1, b .2, ap (λ x. x i) e ∙ b .3))
       (λ (b : (i < k → (is-due marks i && g i .moving) ≡ false) × (h i ≡ g i)).
       inr (
         λ a. ⊎-elim b.0 (λ (o : k ≤ i). let q : i ≡ k = omega arith in
@@ -91,7 +95,8 @@ module _ (f : Field) (g : Fleet) (marks : List ℕ) where
 pub due-come : Due-come
 unfolding all-come
 due-come f g marks i l = ⊎-elim
-    (λ (t : (i < f .shuttles) × (is-due marks i ≡ true) × (g i .moving ≡ true) × (all-come f g marks i ≡ arrived (g i))). inl (t .1, t .2, t .3))
+    (λ (t : (i < f .shuttles) × (is-due marks i ≡ true) × (g i .moving ≡ true) × (all-come f g marks i ≡ arrived (g i))). inl
+    (t .1, t .2, t .3))
     (λ (t : (i < f .shuttles → (is-due marks i && g i .moving) ≡ false) × (all-come f g marks i ≡ g i)). inr (t .0 l, t .1))
     (comes f g marks (f .shuttles) (omega arith) i)
 
@@ -126,7 +131,8 @@ pub waits-count : Waits-count
 unfolding one-more
 waits-count f g ws i l h =
     let e = counts-all f g ws i l h in
-    ⊎-elim (λ (a : waits (g i) ≡ true). inl (a, e ∙ cond-true _ _ 0 a)) (λ (a : waits (g i) ≡ false). inr (a, e ∙ cond-false _ (suc (getD ws i 0)) 0 a))
+    ⊎-elim (λ (a : waits (g i) ≡ true). inl (a, e ∙ cond-true _ _ 0 a))
+    (λ (a : waits (g i) ≡ false). inr (a, e ∙ cond-false _ (suc (getD ws i 0)) 0 a))
     (cases-bool (waits (g i)))
 
 -- the choice, among the first k
@@ -153,7 +159,8 @@ chooses f g ws (suc k) l = on (chosen-to f g ws k) refl (chooses f g ws k (omega
     on b _ (inl t) = ⊎-elim
         (λ (e : better f g ws b k ≡ true).
         let (a, o) = and-parts _ _ e in
-        let more : getD ws b 0 < getD ws k 0 = ⊎-elim (λ q. let z = eqb-true b n q in let u = t .below in absurd (omega arith)) (λ q. ltb-true _ _ q) (or-cases _ _ o) in
+        let more : getD ws b 0 < getD ws k 0 = ⊎-elim (λ q. let z = eqb-true b n q in let u = t .below in absurd (omega arith))
+        (λ q. ltb-true _ _ q) (or-cases _ _ o) in
         inl (subst (Best f g ws (suc k)) (sym (cond-true _ k b e)) (record {
           below = omega arith;
           granted = a;
@@ -171,7 +178,8 @@ chooses f g ws (suc k) l = on (chosen-to f g ws k) refl (chooses f g ws k (omega
               let o : getD ws k 0 ≤ getD ws b 0 = ltb-false (getD ws b 0) (getD ws k 0)
               (⊎-elim (λ z. absurd (both-ways (grants f g k) z g′)) (λ z. or-parts (eqb b n) _ z .1) (and-cases (grants f g k) _ e)) in
               let u = t .below in
-              ⊎-elim (λ y. inl y) (λ (y : getD ws b 0 ≤ getD ws i 0). inr (omega arith, omega arith)) (cases-lt (getD ws i 0) (getD ws b 0))) (split i c);
+              ⊎-elim (λ y. inl y) (λ (y : getD ws b 0 ≤ getD ws i 0). inr (omega arith, omega arith))
+              (cases-lt (getD ws i 0) (getD ws b 0))) (split i c);
         })))
         (cases-bool (better f g ws b k))
     on b _ (inr t) = ⊎-elim
@@ -185,7 +193,11 @@ chooses f g ws (suc k) l = on (chosen-to f g ws k) refl (chooses f g ws k (omega
         })))
         (λ (e : grants f g k ≡ false).
         let e′ : better f g ws b k ≡ false = and-left _ _ e in
-        inr (cond-false _ k b e′ ∙ t .0, λ i c. ⊎-elim (λ d. t .1 i d) (λ (d : i ≡ k). subst (λ x. grants f g x ≡ false) (sym d) e) (split i c)))
+        inr (
+          cond-false _ k b e′ ∙ t .0,
+          λ i c. ⊎-elim (λ d. t .1 i d) (λ (d : i ≡ k). subst (λ x. grants f g x ≡ false) (sym d) e)
+              (split i c),
+        ))
         (cases-bool (grants f g k))
 
 -- the choice among all
@@ -254,7 +266,12 @@ ticks-are-rows f es ws marks =
       come = t .same;
       then = ⊎-elim
           (λ (b : Best f h vs (f .shuttles) (chosen f h vs)).
-          inl (b .below, subst (λ x. grants f x (chosen f h vs) ≡ true) (t .same) (b .granted), ap (λ x. happens f x (step (chosen f h vs))) (t .same)))
+          inl (
+            b .below,
+            subst (λ x. grants f x (chosen f h vs) ≡ true) (t .same) (b .granted),
+            ap
+                (λ x. happens f x (step (chosen f h vs))) (t .same),
+          ))
           (λ (b : (chosen f h vs ≡ f .shuttles) × ((i : ℕ) → i < f .shuttles → grants f h i ≡ false)).
           inr (
             b .0,

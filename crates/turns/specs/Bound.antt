@@ -25,7 +25,7 @@ abbrev pub Comes-within : (n : ℕ) (moves due : ℕ → ℕ → Bool) (whose : 
 Comes-within n moves due whose d =
     (t i : ℕ) → i < n → moves t i ≡ true → Begins whose t i → (k : ℕ) × (k < d) × (due (t + k) i ≡ true)
 
--- then after (left at the start + 1) times d ticks, or as many if d is 0, nothing is left and nobody is on its way, for ever
+-- then after (L + 1) · max(d, 1) ticks, L being what is left at the start, nothing is left and nobody is on its way, for ever
 abbrev pub All-done-in-time : Type 0
 All-done-in-time =
     (n : ℕ) (left : ℕ → ℕ) (moves due : ℕ → ℕ → Bool) (whose : ℕ → ℕ) (d : ℕ) → Ticking n left moves due whose

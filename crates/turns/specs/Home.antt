@@ -1,6 +1,6 @@
 -- Coming home by ticks alone: after any row of events, for every choice among the steps that are granted, and so by the rule of ticks.
 use mathlib.Core.Path.{_≡_}
-use mathlib.Core.Bool.{Bool, true, false}
+use mathlib.Core.Bool.{true, false}
 use mathlib.Core.List.{List}
 use mathlib.Core.Logic.{_⊎_}
 use Prim.Native.Nat.{ℕ, zero, suc, _*_, max, _≤_, _<_}
@@ -21,7 +21,7 @@ pub record Any-tick (f : Field) (g : Fleet) (marks : List ℕ) (whose : ℕ) (h 
 abbrev pub Arrivals-within : Field → (fleets : ℕ → Fleet) (marks : ℕ → List ℕ) (whose : ℕ → ℕ) (d : ℕ) → Type 0
 Arrivals-within f fleets marks whose d = Comes-within (f .shuttles) (λ t i. fleets t i .moving) (λ t i. is-due (marks t) i) whose d
 
--- after any row of events, by ticks of any choice, all are home after (squares left + 1) times d ticks, or as many if d is 0
+-- after any row of events, by ticks of any choice, all are home after (L + 1) · max(d, 1) ticks, L being the squares left in sum
 abbrev pub Home-in-time : Type 0
 Home-in-time =
     (f : Field) (es : List Event) (fleets : ℕ → Fleet) (marks : ℕ → List ℕ) (whose : ℕ → ℕ) (d : ℕ) → sound f ≡ true

@@ -7,3 +7,4 @@ pub mod Night
 pub mod Starving
 pub mod Parts
 pub mod Waiting
+pub mod Examples

@@ -1,11 +1,12 @@
 -- Parts of a field: the connected parts of its free squares without the bays, and fields in which each touches at most two bays.
 use mathlib.Core.Path.{_≡_}
 use mathlib.Core.Bool.{Bool, true, not, cond, _&&_, _||_}
-use mathlib.Core.List.{List, [], _∷_, _++_, map}
+use mathlib.Core.List.{List, map}
 use mathlib.Core.Logic.{_⊎_, _↔_}
 use Prim.Native.Nat.{ℕ, zero, suc, _*_, _<_}
 use lib.Dec.{eqb}
 use lib.ListN.{getD}
+use Rattle.std.specs.Iters.{counting}
 use Rattle.rules.specs.Tests.{every-to, any-to}
 use Rattle.rules.specs.Field.{Field, is-bay, free-square, beside}
 
@@ -34,10 +35,7 @@ At-most-two f =
     (i j k c d e : ℕ) → i < f .shuttles → j < f .shuttles → k < f .shuttles → at-bay f i c ≡ true → at-bay f j d ≡ true → at-bay f k e ≡ true
     → Connected f c d → Connected f d e → (i ≡ j) ⊎ ((i ≡ k) ⊎ (j ≡ k))
 
--- The same by trying, over a list that has for each square the number of its part. At first each square has its own:
-unfoldable pub numbers : ℕ → List ℕ
-numbers zero = []
-numbers (suc n) = numbers n ++ (n ∷ [])
+-- The same by trying, over a list that has for each square the number of its part; at first each square has its own.
 
 -- if c and d are linked, all with d's number get c's
 unfoldable pub joined : Field → (c d : ℕ) → List ℕ → List ℕ
@@ -55,7 +53,7 @@ joined-all f (suc c) d ps = joined-row f c d (joined-all f c d ps)
 
 -- the number of the part that each square is in
 unfoldable pub parts : Field → List ℕ
-parts f = joined-all f (f .across * f .down) (f .across * f .down) (numbers (f .across * f .down))
+parts f = joined-all f (f .across * f .down) (f .across * f .down) (counting 0 (f .across * f .down))
 
 -- with these numbers, the bay of shuttle i touches part p
 unfoldable pub touches : Field → List ℕ → (i p : ℕ) → Bool

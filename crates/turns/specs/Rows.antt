@@ -29,7 +29,8 @@ pub record Is-row (f : Field) (es : List Event) (marks : List ℕ) (t : Turn) : 
   pub due : due-arrivals marks ds ≡ true
   pub drives : Drives f es ds
   pub come : all-come f (after f es) marks ≡ after f (ds ++ es)
-  pub then : ((t .whose < f .shuttles) × (grants f (after f (ds ++ es)) (t .whose) ≡ true) × (t .fleet ≡ after f (step (t .whose) ∷ (ds ++ es))))
+  pub then : ((t .whose < f .shuttles) × (grants f (after f (ds ++ es)) (t .whose) ≡ true) ×
+      (t .fleet ≡ after f (step (t .whose) ∷ (ds ++ es))))
       ⊎ ((t .whose ≡ f .shuttles) × ((i : ℕ) → i < f .shuttles → grants f (after f (ds ++ es)) i ≡ false) × (t .fleet ≡ after f (ds ++ es)))
 
 -- every tick is such a row

@@ -3,13 +3,14 @@ use mathlib.Core.Path.{_≡_}
 use mathlib.Core.Bool.{true, false, cond}
 use mathlib.Core.List.{List, [], _∷_}
 use mathlib.Core.Logic.{_⊎_}
-use Prim.Native.Nat.{ℕ, suc, _+_, _≤_, _<_}
+use Prim.Native.Nat.{ℕ, suc, _+_, _<_}
 use lib.Dec.{leb}
 use lib.ListN.{getD}
 use Rattle.rules.specs.Field.{Field, sound}
 use Rattle.rules.specs.Route.{route-ok}
 use Rattle.rules.specs.Shuttle.{at-home}
 use Rattle.turns.specs.Tick.{Turn}
+use Rattle.turns.specs.Home.{Arrivals-within}
 use Rattle.turns.specs.Night.{night}
 
 -- three squares across and two down, no wall; the bays of a, b and c
@@ -37,8 +38,9 @@ unfoldable pub hall : ℕ → Turn
 hall = night corner (record { fleet = at-home corner; waits = 0 ∷ 0 ∷ 0 ∷ []; whose = 3 }) again at-once
 
 pub record Starves : Type 0 where
-  -- nothing is wrong with the field or the orders
+  -- nothing is wrong with the field, the arrivals or the orders
   pub field-sound : sound corner ≡ true
+  pub within : Arrivals-within corner (λ t. hall t .fleet) at-once (λ t. hall (suc t) .whose) 1
   pub ways-good : (i : ℕ) → i < 3 → route-ok corner i (corner .bay i) (way i) ≡ true
   -- every tick grants a step, and never that of a
   pub others-go : (t : ℕ) → (hall (suc t) .whose ≡ 1) ⊎ (hall (suc t) .whose ≡ 2)

@@ -47,7 +47,8 @@ counted f g ws = counted-to g ws (f .shuttles)
 unfoldable pub better : Field → Fleet → List ℕ → (best k : ℕ) → Bool
 better f g ws best k = grants f g k && (eqb best (f .shuttles) || ltb (getD ws best 0) (getD ws k 0))
 
--- of the first k shuttles whose steps are granted the one that has waited longest, of equals the lowest; the number of shuttles if there is none
+-- of the first k shuttles whose steps are granted the one that has waited longest, of equals the lowest; the number of shuttles if there is
+-- none
 unfoldable pub chosen-to : Field → Fleet → List ℕ → ℕ → ℕ
 chosen-to f g ws zero = f .shuttles
 chosen-to f g ws (suc k) = cond (better f g ws (chosen-to f g ws k) k) k (chosen-to f g ws k)

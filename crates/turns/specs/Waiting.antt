@@ -20,7 +20,7 @@ pub record Any-night (f : Field) (s : Turn) (orders : ℕ → ℕ → List ℕ) 
   pub enough : f .shuttles ≤ length (s .waits)
   pub within : Arrivals-within f (λ t. night f s orders marks t .fleet) marks (λ t. night f s orders marks (suc t) .whose) d
 
--- how long one may have to wait: 257 times as many ticks as there are shuttles, and d more
+-- how many ticks one may have to wait: for each of the 256 squares that another may have left, and once more, one for each shuttle and d
 unfoldable pub most-ticks : Field → ℕ → ℕ
 most-ticks f d = 257 * (f .shuttles + d)
 

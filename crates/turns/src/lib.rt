@@ -3,8 +3,10 @@
 ghost use Rattle.turns.specs.Rows.{Ticks-are-rows, Due-come, Waits-count, Longest-first};
 ghost use Rattle.turns.specs.Bound.{All-done-in-time};
 ghost use Rattle.turns.specs.Home.{Home-in-time, Home-by-ticks};
+ghost use Rattle.turns.specs.Night.{Nights-are-rows};
 ghost use Rattle.turns.specs.Starving.{Starves};
 ghost use Rattle.turns.specs.Parts.{Parts-are-found, At-most-two-is-found};
+ghost use Rattle.turns.specs.Examples.{Both-kinds};
 ghost use Rattle.turns.specs.Waiting.{Nobody-starves, Each-comes-home};
 
 // A tick is a row of the arrivals that are due and then at most one step, each of which happens.
@@ -35,14 +37,15 @@ pub fn longest_first_stands() -> u8
     0
 }
 
-// Where arrivals come within d ticks and nothing is stuck, all is done after (left + 1) times d ticks.
+// Where arrivals come within d ticks and nothing is stuck, all is done after (left + 1) · max(d, 1) ticks.
 pub fn all_done_in_time_stands() -> u8
     ensures { λ _. ⌜ All-done-in-time ⌝ }
 {
     0
 }
 
-// By ticks alone, whichever granted steps are chosen, all are home after (squares left + 1) times d ticks.
+// By ticks alone, whichever granted steps are chosen, all are home after (squares left + 1) · max(d, 1)
+// ticks.
 pub fn home_in_time_stands() -> u8
     ensures { λ _. ⌜ Home-in-time ⌝ }
 {
@@ -52,6 +55,13 @@ pub fn home_in_time_stands() -> u8
 // And so where the one that has waited longest is chosen.
 pub fn home_by_ticks_stands() -> u8
     ensures { λ _. ⌜ Home-by-ticks ⌝ }
+{
+    0
+}
+
+// With orders before the ticks, each fleet is still one after a row of events.
+pub fn nights_are_rows_stands() -> u8
+    ensures { λ _. ⌜ Nights-are-rows ⌝ }
 {
     0
 }
@@ -74,6 +84,13 @@ pub fn parts_are_found_stands() -> u8
 // And so whether each part touches at most two bays.
 pub fn at_most_two_is_found_stands() -> u8
     ensures { λ _. ⌜ At-most-two-is-found ⌝ }
+{
+    0
+}
+
+// There are fields of that kind, and the one in which somebody starves is none.
+pub fn both_kinds_stands() -> u8
+    ensures { λ _. ⌜ Both-kinds ⌝ }
 {
     0
 }

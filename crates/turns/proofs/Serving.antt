@@ -7,26 +7,23 @@ use Prim.Native.Nat.{ℕ, zero, suc, _+_, _*_, _≤_, _<_}
 use native.Mathlib.Omega.{arith}
 use lib.Dec.{eqb}
 use lib.ListN.{length, getD}
-use Rattle.std.proofs.shelf.Tests.{both-ways, cases-bool, cases-eq, cond-true, cond-false, cond-both, and-parts, and-from, or-cases, or-left, not-true, not-from-false, eqb-true, eqb-false, eq-eqb, ne-eqb}
-use Rattle.std.proofs.shelf.Ways.{tells}
+use Rattle.std.proofs.shelf.Tests.{both-ways, cases-bool, cases-eq, cond-true, cond-false, cond-both, and-parts}
+use Rattle.std.proofs.shelf.Tests.{and-from, or-cases, not-true, not-from-false, eqb-true, eqb-false, eq-eqb, ne-eqb}
 use Rattle.rules.specs.Tests.{among, is-empty}
 use Rattle.rules.specs.Field.{Field, sound}
 use Rattle.rules.specs.Route.{route-ok}
-use Rattle.rules.specs.Shuttle.{Shuttle, Fleet, holds, stepped, arrived}
-use Rattle.rules.specs.Event.{grants}
-use Rattle.rules.proofs.Tests.{empty-tells, empty-from}
-use Rattle.agents.specs.Kinds.{blocks}
+use Rattle.rules.specs.Shuttle.{Shuttle, Fleet, holds}
+use Rattle.rules.proofs.Tests.{empty-from}
 use Rattle.agents.proofs.Tests.{some-below, false-from}
 use Rattle.promise.specs.Rule.{shuttles}
 use Rattle.promise.proofs.Shuttles.{blocks-is}
-use Rattle.promise.proofs.Places.{bays-differ, route-avoids, steps, idle-home}
-use Rattle.promise.proofs.Events.{Good}
+use Rattle.promise.proofs.Places.{bays-differ, route-avoids, idle-home}
 use Rattle.turns.specs.Tick.{waits, one-more}
 use Rattle.turns.specs.Parts.{open-square, At-most-two, parts, touches}
 use Rattle.turns.proofs.Finding.{two-touch}
 use Rattle.turns.proofs.Fair.{turn-comes}
 use Rattle.turns.proofs.Choices.{Choices, waits-from, waits-tells, waits-not, holds-at, more-least, stops, shorter}
-use Rattle.turns.proofs.Parts.{Own, step-own, next-is, not-bay, first-part, one-part, held-own, stands-holds, Clear, clear-granted, no-pair}
+use Rattle.turns.proofs.Parts.{step-own, next-is, not-bay, first-part, one-part, held-own, stands-holds, Clear, clear-granted, no-pair}
 
 module _ (f : Field) (ok : sound f ≡ true) (two : At-most-two f) (d : ℕ) (h : ℕ → Fleet) (w : ℕ → ℕ → ℕ) (c : ℕ → ℕ)
     (due : ℕ → ℕ → Bool) (r : Choices f d h w c due) where
@@ -34,7 +31,8 @@ module _ (f : Field) (ok : sound f ≡ true) (two : At-most-two f) (d : ℕ) (h 
   grow t i l =
       let e = r .counting t i l in
       let a = more-least (h (suc t) i) (cond (eqb i (c t)) 0 (w t i)) in
-      let b : cond (eqb i (c t)) 0 (w t i) ≤ w t i = cond-both (eqb i (c t)) 0 (w t i) (λ x. x ≤ w t i) (λ _. omega arith) (λ _. omega arith) in
+      let b : cond (eqb i (c t)) 0 (w t i) ≤ w t i = cond-both (eqb i (c t)) 0 (w t i) (λ x. x ≤ w t i) (λ _. omega arith)
+      (λ _. omega arith) in
       omega arith
 
   again : (t : ℕ) → c t < f .shuttles → w (suc t) (c t) ≤ 1
@@ -54,11 +52,13 @@ module _ (f : Field) (ok : sound f ≡ true) (two : At-most-two f) (d : ℕ) (h 
   own-bay : (t i j : ℕ) → i < f .shuttles → j < f .shuttles → (i ≡ j → ⊥) → holds (h t j) (f .bay i) ≡ true → ⊥
   own-bay t i j l m ne v = ⊎-elim
       (λ (e : f .bay i ≡ f .bay j). ne (bays-differ f ok i j l m e))
-      (λ (o : (open-square f (f .bay i) ≡ true) × (touches f (parts f) j (getD (parts f) (f .bay i) 0) ≡ true)). not-bay f i (f .bay i) l (o .0) refl)
+      (λ (o : (open-square f (f .bay i) ≡ true) × (touches f (parts f) j (getD (parts f) (f .bay i) 0) ≡ true)). not-bay f i (f .bay i) l
+      (o .0) refl)
       (held-own f j (h t j) (r .own t j m) (f .bay i) v)
 
   -- who holds an open square touches its part
-  touching : (t j x : ℕ) → j < f .shuttles → open-square f x ≡ true → holds (h t j) x ≡ true → touches f (parts f) j (getD (parts f) x 0) ≡ true
+  touching : (t j x : ℕ) → j < f .shuttles → open-square f x ≡ true → holds (h t j) x ≡ true → touches f (parts f) j
+      (getD (parts f) x 0) ≡ true
   touching t j x m o v = ⊎-elim (λ (e : x ≡ f .bay j). absurd (not-bay f j x m o e))
       (λ (q : (open-square f x ≡ true) × (touches f (parts f) j (getD (parts f) x 0) ≡ true)). q .1)
       (held-own f j (h t j) (r .own t j m) x v)
@@ -90,11 +90,13 @@ module _ (f : Field) (ok : sound f ≡ true) (two : At-most-two f) (d : ℕ) (h 
         let y : suc t ≡ t + 1 = omega arith in
         let z : suc t + j ≡ t + suc j = omega arith in
         ⊎-elim (λ q. inl (at-once (suc j) t (omega arith) e q))
-        (λ ne. ⊎-elim (λ q. inl (later j (suc j) 1 t (omega arith) (subst (Served j) y q))) (λ q. inr (subst (λ u. h u a ≡ s) z q)) (rest (stays t e ne)))
+        (λ ne. ⊎-elim (λ q. inl (later j (suc j) 1 t (omega arith) (subst (Served j) y q))) (λ q. inr (subst (λ u. h u a ≡ s) z q))
+        (rest (stays t e ne)))
         (cases-eq (c t) a)
 
     clear-longest : (t : ℕ) → h t a ≡ s → Clear f (h t) a → (c t < f .shuttles) × (w t a ≤ w t (c t))
-    clear-longest t e q = r .longest t a l (clear-granted f (h t) (r .good t) a l (ap (λ x. x .moving) e ∙ stands) (ap (λ x. is-empty (x .route)) e ∙ left) q)
+    clear-longest t e q = r .longest t a l (clear-granted f (h t) (r .good t) a l (ap (λ x. x .moving) e ∙ stands)
+        (ap (λ x. is-empty (x .route)) e ∙ left) q)
 
     -- where a is always clear, it is served within n ticks
     alone : ((t : ℕ) → h t a ≡ s → Clear f (h t) a) → (t : ℕ) → h t a ≡ s → Served (f .shuttles) t
@@ -125,10 +127,12 @@ module _ (f : Field) (ok : sound f ≡ true) (two : At-most-two f) (d : ℕ) (h 
       b-clear t e v u j mj nj x i = false-from _ (λ y. ⊎-elim
           (λ (z : x ≡ f .bay b). own-bay t b j m mj nj (subst (λ q. holds (h t j) q ≡ true) z y))
           (λ (z : (open-square f x ≡ true) × (getD (parts f) x 0 ≡ getD (parts f) (h t b .at) 0)).
-          let t′ : touches f (parts f) j p ≡ true = subst (λ q. touches f (parts f) j q ≡ true) (z .1 ∙ place .1) (touching t j x mj (z .0) y) in
+          let t′ : touches f (parts f) j p ≡ true = subst (λ q. touches f (parts f) j q ≡ true) (z .1 ∙ place .1)
+          (touching t j x mj (z .0) y) in
           ⊎-elim
           (λ (q : a ≡ j).
-          let here : h t a .at ≡ x = stands-holds (h t a) x (ap (λ k. k .moving) e ∙ stands) (subst (λ k. holds (h t k) x ≡ true) (sym q) y) in
+          let here : h t a .at ≡ x = stands-holds (h t a) x (ap (λ k. k .moving) e ∙ stands)
+          (subst (λ k. holds (h t k) x ≡ true) (sym q) y) in
           no-pair (r .good t .all-go a l) b m ne (blocks-is (h t) a b ∙ ap (λ k. among (h t b .at) (k .route)) e ∙ u)
           (blocks-is (h t) b a ∙ subst (λ k. among k (h t b .route) ≡ true) (sym here) i))
           (λ (q : a ≡ j → ⊥). nj (sym (only j mj q t′)))
@@ -163,7 +167,8 @@ module _ (f : Field) (ok : sound f ≡ true) (two : At-most-two f) (d : ℕ) (h 
           turn-comes (f .shuttles) w c a l (Pair o) (λ t. c t ≡ b) grow again
           (λ t j. clear-longest t (j .0) (a-clear t (j .0) (b-stands t j) (ap (λ q. among (q .at) (s .route)) (j .1) ∙ i)))
           (λ t j. r .waited t a l (waits-a t (j .0)))
-          (λ t j. ⊎-elim inl (λ na. ⊎-elim (λ z. inr (inl z)) (λ nb. inr (inr (on t j na nb, longer t a l na (waits-a (suc t) (on t j na nb .0)))))
+          (λ t j. ⊎-elim inl (λ na. ⊎-elim (λ z. inr (inl z))
+          (λ nb. inr (inr (on t j na nb, longer t a l na (waits-a (suc t) (on t j na nb .0)))))
           (cases-eq (c t) b)) (cases-eq (c t) a))
           t (e, refl))
           (cases-bool (among (h t b .at) (s .route)))
@@ -295,7 +300,8 @@ module _ (f : Field) (ok : sound f ≡ true) (two : At-most-two f) (d : ℕ) (h 
           (λ (g : (j : ℕ) → j < f .shuttles → (not (eqb a j) && touches f (parts f) j (getD (parts f) x 0)) ≡ false).
           few t (alone (λ t′ e′ j m ne y i. false-from _ (λ v. ⊎-elim
           (λ (z : y ≡ f .bay a). own-bay t′ a j l m ne (subst (λ y. holds (h t′ j) y ≡ true) z v))
-          (λ (z : (open-square f y ≡ true) × (getD (parts f) y 0 ≡ getD (parts f) x 0)). both-ways _ (g j m) (and-from _ _ (not-from-false _ (ne-eqb a j ne))
+          (λ (z : (open-square f y ≡ true) × (getD (parts f) y 0 ≡ getD (parts f) x 0)). both-ways _ (g j m)
+          (and-from _ _ (not-from-false _ (ne-eqb a j ne))
           (subst (λ q. touches f (parts f) j q ≡ true) (z .1) (touching t′ j y m (z .0) v))))
           (squares y (subst (λ k. among y (k .route) ≡ true) e′ i)))) t e₀))
           (some-below (f .shuttles) (λ j. not (eqb a j) && touches f (parts f) j (getD (parts f) x 0)))

@@ -1,16 +1,15 @@
 -- Each comes home, where each that waits gets its step: over the fleets at the choices of a row of ticks.
-use mathlib.Core.Path.{_≡_, refl, sym, ap, subst, _∙_}
+use mathlib.Core.Path.{_≡_, ap, subst, _∙_}
 use mathlib.Core.Bool.{Bool, true, false}
-use mathlib.Core.Logic.{_⊎_, ⊎-elim}
+use mathlib.Core.Logic.{⊎-elim}
 use Prim.Native.Nat.{ℕ, zero, suc, _+_, _*_, _≤_, _<_}
 use native.Mathlib.Omega.{arith}
 use lib.ListN.{length}
 use Rattle.std.proofs.shelf.Tests.{both-ways, cases-bool}
 use Rattle.rules.specs.Tests.{is-empty}
 use Rattle.rules.specs.Field.{Field}
-use Rattle.rules.specs.Shuttle.{Fleet, stepped, arrived}
+use Rattle.rules.specs.Shuttle.{Fleet}
 use Rattle.rules.proofs.Tests.{empty-from}
-use Rattle.promise.proofs.Places.{steps}
 use Rattle.turns.specs.Tick.{waits}
 use Rattle.turns.proofs.Choices.{Choices, waits-from, stops, shorter}
 
@@ -54,4 +53,5 @@ module _ (f : Field) (d : ℕ) (h : ℕ → Fleet) (w : ℕ → ℕ → ℕ) (c 
         let len = shorter f d h w c due r i l (t + k) z (ap (λ o. is-empty (o .route)) y ∙ u) in
         let len′ : length (h (t + k) i .route) ≡ length (h t i .route) = ap (λ o. length (o .route)) y in
         let e : suc (t + k) ≡ t + suc k = omega arith in
-        later (n * (p + d) + d) (suc n * (p + d)) (suc k) t (omega arith) (subst (Done (n * (p + d) + d)) e (rest (suc (t + k)) (omega arith))))
+        later (n * (p + d) + d) (suc n * (p + d)) (suc k) t (omega arith)
+        (subst (Done (n * (p + d) + d)) e (rest (suc (t + k)) (omega arith))))
