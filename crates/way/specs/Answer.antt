@@ -12,11 +12,11 @@ use Rattle.way.specs.declared.answer.Way.the-variants.{Found, None, Refused}
 
 -- of a question that is turned away by number n, or not if that is 0, with a lent part that holds `before` and then `after`:
 -- the route that is found is the first of the shortest, and as many places as it has are written; there is none; or it is turned away
-abbrev pub Says : Field → (shuttle from : ℕ) → (row : List ℕ) → ℕ → (before after : List ℕ) → Way → Type 0
-Says f i c row n before after (Found k) = (n ≡ 0) × ((r : List ℕ) × (length r ≡ k) × Shortest f i c row r × (after ≡ r ++ drop k before))
-Says f i c row n before after None = (n ≡ 0) × Nowhere f i c row × (after ≡ before)
-Says f i c row n before after (Refused m) = (m ≡ n) × (0 < n) × (after ≡ before)
+abbrev pub Answers : Field → (shuttle from : ℕ) → (row : List ℕ) → ℕ → (before after : List ℕ) → Way → Type 0
+Answers f i c row n before after (Found k) = (n ≡ 0) × ((r : List ℕ) × (length r ≡ k) × Shortest f i c row r × (after ≡ r ++ drop k before))
+Answers f i c row n before after None = (n ≡ 0) × Nowhere f i c row × (after ≡ before)
+Answers f i c row n before after (Refused m) = (m ≡ n) × (0 < n) × (after ≡ before)
 
 -- the same of the numbers that the entry is lent
-abbrev pub Answers : (across down : ℕ) → (walls bays : List ℕ) → (shuttle from : ℕ) → (row before after : List ℕ) → Way → Type 0
-Answers a d ws bs i c row before after = Says (field-in a d ws bs) i c row (way-refusal a d ws bs i c row (length before)) before after
+abbrev pub Answered : (across down : ℕ) → (walls bays : List ℕ) → (shuttle from : ℕ) → (row before after : List ℕ) → Way → Type 0
+Answered a d ws bs i c row before after = Answers (field-in a d ws bs) i c row (way-refusal a d ws bs i c row (length before)) before after

@@ -12,14 +12,14 @@ use Rattle.ways.proofs.Leg.{Best}
 use Rattle.ways.proofs.Led.{shortest-from-best, nowhere-from-far, ends-push}
 use Rattle.ways.proofs.Asked.{refused-field, refused-shuttle, refused-asked, refused-not, asked-tells}
 use Rattle.way.specs.declared.answer.Way.the-variants.{Found}
-use Rattle.way.specs.Answer.{Says}
+use Rattle.way.specs.Answer.{Answers}
 use Rattle.way.proofs.Size.{lent, bay-free, free-below}
 use Rattle.way.proofs.find.way.Needs as need
 
 -- the answer that a route is found
 found :
     (f : Field) (i from k n : ℕ) (row made before after : List ℕ) → n ≡ 0 → length made ≡ 256 → (k ≤ 256) × Best f i from (row ++ (f .bay i ∷ [])) (take k made)
-    → after ≡ take k made ++ drop k before → Says f i from row n before after (Found k)
+    → after ≡ take k made ++ drop k before → Answers f i from row n before after (Found k)
 found f i from k n row made before after z long b e =
     let l : length (take k made) ≡ k = length-take-le k made (omega (arith, b .0)) in
     (z, (take k made, l, shortest-from-best f i from row (take k made) (b .1) (omega (arith, b .0)), e))
