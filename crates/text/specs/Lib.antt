@@ -1,0 +1,2 @@
+-- What texts are: lines and words, fields, routes and commands, and what is printed.
+pub mod Lines
