@@ -1,2 +1,3 @@
 -- What texts are: lines and words, fields, routes and commands, and what is printed.
 pub mod Lines
+pub mod Fields

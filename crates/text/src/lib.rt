@@ -1,5 +1,12 @@
 // Texts: lines and words, fields, routes and commands, and what is printed.
+mod fields;
 mod lines;
+mod unread;
 
+pub use fields::FieldText;
+pub use fields::rows_in;
 pub use lines::lines_of;
 pub use lines::words_of;
+pub use unread::Unread;
+pub use unread::UnreadFromAlloc;
+pub use unread::UnreadFromRefused;

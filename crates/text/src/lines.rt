@@ -13,7 +13,7 @@ use std::alloc::AllocError;
 use std::alloc::Global;
 
 // How many bytes stand before the first that is `stop`.
-fn bytes_before(text: &[u8], stop: u8) -> usize
+pub fn bytes_before(text: &[u8], stop: u8) -> usize
     ensures value { λ r. ⌜ r ≡ leading (λ b. not (eqb b stop)) (now (text .entry)) ⌝ }
     ensures bound { λ r. ⌜ r ≤ length (now (text .entry)) ⌝ }
 {
