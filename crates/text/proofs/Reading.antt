@@ -2,7 +2,7 @@
 use mathlib.Core.Path.{_≡_, refl, sym, ap, _∙_}
 use mathlib.Core.Bool.{Bool, true, false, cond, not, _&&_, _||_}
 use mathlib.Core.List.{List, [], _∷_, _++_, map, append-assoc, append-nil}
-use Prim.Native.Nat.{ℕ, zero, suc, _+_, _-_, _≤_, _<_}
+use Prim.Native.Nat.{ℕ, zero, suc, _+_, _-_, _≤_, _<_, min}
 use native.Mathlib.Nat.{sub-zero}
 use native.Mathlib.Numerals.{add-one}
 use native.Mathlib.Omega.{arith}
@@ -13,11 +13,13 @@ use Rattle.std.specs.declared.option.Option.{Option}
 use Rattle.std.specs.declared.option.Option.the-variants.{Some, None}
 use Rattle.std.specs.shelf.Lists.{leading}
 use Rattle.std.proofs.shelf.Lists.{drop-more, drop-all, take-more, getD-map, length-map}
-use Rattle.std.proofs.shelf.Tests.{cond-true, cond-false}
+use Rattle.std.proofs.shelf.Tests.{cond-true, cond-false, lt-ltb, le-ltb}
 use Rattle.std.proofs.shelf.Ways.{tells}
-use Rattle.rules.specs.Tests.{is-empty, among}
+use Rattle.rules.specs.Tests.{is-empty, among, every}
 use Rattle.text.specs.Lines.{pieces}
-use Rattle.text.specs.Fields.{row-count, sign-fits, signs-fit, row-fits, misfit, signs}
+use Rattle.text.specs.Fields.{row-count, sign-fits, signs-fit, row-fits, misfit, signs, is-led, gap, bays-from, across-of, or-else, fault, Tells}
+use Rattle.text.specs.declared.unread.Unread.{Unread}
+use Rattle.text.specs.declared.unread.Unread.the-variants.{Line, Memory}
 use Rattle.text.proofs.Cutting.{other}
 
 -- a sign stands somewhere exactly if fewer bytes than all stand before the first one
@@ -118,3 +120,80 @@ pub rows-over : (across k : ℕ) (before : List ℕ) (rows : List (RefT (List �
 unfolding misfit signs
 rows-over across k before rows i h =
     (ap (misfit across k before) (pieces-over rows i h), ap (λ l. before ++ signs l) (pieces-over rows i h) ∙ append-nil before)
+
+-- an element more of which p holds, or not
+pub every-more : (p : ℕ → Bool) (xs : List ℕ) (i : ℕ) → i < length xs → true ≡ p (getD xs i 0)
+    → every p (drop i xs) ≡ every p (drop (i + 1) xs)
+unfolding every
+every-more p xs i h fits = ap (every p) (drop-more xs i 0 h) ∙ ap (λ t. t && every p (drop (i + 1) xs)) (sym fits)
+
+pub every-wrong : (p : ℕ → Bool) (xs : List ℕ) (i : ℕ) → i < length xs → false ≡ p (getD xs i 0) → every p (drop i xs) ≡ false
+unfolding every
+every-wrong p xs i h wrong = ap (every p) (drop-more xs i 0 h) ∙ ap (λ t. t && every p (drop (i + 1) xs)) (sym wrong)
+
+pub every-over : (p : ℕ → Bool) (xs : List ℕ) (i : ℕ) → length xs ≤ i → every p (drop i xs) ≡ true
+unfolding every
+every-over p xs i h = ap (every p) (drop-all i xs h)
+
+-- a row more without a gap, or with one
+pub gap-more : (all : List ℕ) (rows : List (RefT (List ℕ))) (i : ℕ) (d : RefT (List ℕ)) → i < length rows
+    → true ≡ every (is-led all) (getD rows i d .now)
+    → gap i all (drop i (pieces rows)) ≡ gap (i + 1) all (drop (i + 1) (pieces rows))
+unfolding gap
+gap-more all rows i d h led =
+    ap (gap i all) (piece-next rows i d h) ∙ cond-true _ _ _ (sym led) ∙ ap (λ k. gap k all (drop (i + 1) (pieces rows))) (sym (add-one i))
+
+pub gap-here : (all : List ℕ) (rows : List (RefT (List ℕ))) (i : ℕ) (d : RefT (List ℕ)) → i < length rows
+    → false ≡ every (is-led all) (getD rows i d .now) → gap i all (drop i (pieces rows)) ≡ Some i
+unfolding gap
+gap-here all rows i d h wrong = ap (gap i all) (piece-next rows i d h) ∙ cond-false _ _ _ (sym wrong)
+
+pub gap-over : (k : ℕ) (all : List ℕ) (rows : List (RefT (List ℕ))) (i : ℕ) → length rows ≤ i → gap k all (drop i (pieces rows)) ≡ None
+unfolding gap
+gap-over k all rows i h = ap (gap k all) (pieces-over rows i h)
+
+-- the square of one letter more, or none
+pub bay-more : (k : ℕ) (all : List ℕ) → k < 16 → leading (other (97 + k)) all < length all
+    → bays-from (16 - k) (97 + k) all ≡ min (leading (other (97 + k)) all) 65535 ∷ bays-from (16 - (k + 1)) (97 + (k + 1)) all
+unfolding bays-from
+bay-more k all h here =
+    let one : 16 - k ≡ suc (16 - (k + 1)) = omega arith in
+    let next : suc (97 + k) ≡ 97 + (k + 1) = omega arith in
+    let there : among (97 + k) all ≡ true = sym (among-is (97 + k) all) ∙ lt-ltb _ _ here in
+    ap (λ n. bays-from n (97 + k) all) one ∙ cond-true _ _ _ there
+    ∙ ap (λ c. min (leading (other (97 + k)) all) 65535 ∷ bays-from (16 - (k + 1)) c all) next
+
+pub bay-over : (k : ℕ) (all : List ℕ) → k < 16 → leading (other (97 + k)) all ≡ length all → bays-from (16 - k) (97 + k) all ≡ []
+unfolding bays-from
+bay-over k all h gone =
+    let one : 16 - k ≡ suc (16 - (k + 1)) = omega arith in
+    let missing : among (97 + k) all ≡ false = sym (among-is (97 + k) all) ∙ le-ltb _ _ (omega arith) in
+    ap (λ n. bays-from n (97 + k) all) one ∙ cond-false _ _ _ missing
+
+pub bays-end : (k c : ℕ) (all : List ℕ) → 16 ≤ k → bays-from (16 - k) c all ≡ []
+unfolding bays-from
+bays-end k c all h = let none : 16 - k ≡ 0 = omega arith in ap (λ n. bays-from n c all) none
+
+-- the row at fault, from the first that does not fit and the first gap
+pub fault-misfit : (rs : List (List ℕ)) (across : ℕ) (e : Unread) → across ≡ across-of rs → Tells (misfit across 0 [] rs) e → Tells (fault rs) e
+unfolding fault
+fault-misfit rs across (Line k) same told =
+    ap (λ a. or-else (misfit a 0 [] rs) (gap 0 (signs rs) rs)) (sym same) ∙ ap (λ o. or-else o (gap 0 (signs rs) rs)) told
+fault-misfit rs across Memory same told = tt
+
+pub fault-gap : (rs : List (List ℕ)) (across : ℕ) (all : List ℕ) (o : Option ℕ) → across ≡ across-of rs → misfit across 0 [] rs ≡ None
+    → all ≡ signs rs → gap 0 all rs ≡ o → fault rs ≡ o
+unfolding fault
+fault-gap rs across all o same fits are here =
+    ap (λ a. or-else (misfit a 0 [] rs) (gap 0 (signs rs) rs)) (sym same) ∙ ap (λ m. or-else m (gap 0 (signs rs) rs)) fits
+    ∙ ap (λ l. gap 0 l rs) (sym are) ∙ here
+
+pub across-none : (rows : List (RefT (List ℕ))) → true ≡ eqb (length rows) 0 → 0 ≡ across-of (pieces rows)
+unfolding across-of
+across-none [] h = refl
+across-none (r ∷ rs) h = grind (arith, tells)
+
+pub across-some : (rows : List (RefT (List ℕ))) (d : RefT (List ℕ)) → false ≡ eqb (length rows) 0 → length (getD rows 0 d .now) ≡ across-of (pieces rows)
+unfolding across-of
+across-some [] d h = grind (arith, tells)
+across-some (r ∷ rs) d h = refl

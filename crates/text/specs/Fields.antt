@@ -2,7 +2,7 @@
 use mathlib.Core.Path.{_≡_}
 use mathlib.Core.Bool.{Bool, true, false, cond, _&&_, _||_, not}
 use mathlib.Core.List.{List, [], _∷_, _++_, map}
-use Prim.Native.Nat.{ℕ, zero, suc, pred, min}
+use Prim.Native.Nat.{ℕ, zero, suc, _-_, min}
 use lib.Dec.{eqb, leb}
 use lib.ListN.{length, take, drop}
 use Rattle.std.specs.shelf.Lists.{leading}
@@ -52,8 +52,8 @@ misfit across k before [] = None
 misfit across k before (r ∷ rs) = cond (row-fits across before r) (misfit across (suc k) (before ++ r) rs) (Some k)
 
 -- a letter other than a stands somewhere behind its forerunner: b behind a, c behind b
-abbrev pub is-led : (all : List ℕ) → ℕ → Bool
-is-led all s = not (is-letter s) || (eqb s 97 || among (pred s) all)
+unfoldable pub is-led : (all : List ℕ) → ℕ → Bool
+is-led all s = not (is-letter s) || (eqb s 97 || among (s - 1) all)
 
 -- the first row, counted on from k, with a letter whose forerunner is missing
 unfoldable pub gap : (k : ℕ) → (all : List ℕ) → List (List ℕ) → Option ℕ
@@ -69,7 +69,7 @@ unfoldable pub fault : List (List ℕ) → Option ℕ
 fault rs = or-else (misfit (across-of rs) 0 [] rs) (gap 0 (signs rs) rs)
 
 -- marks of walls
-abbrev pub wall-mark : ℕ → ℕ
+unfoldable pub wall-mark : ℕ → ℕ
 wall-mark s = cond (eqb s 35) 1 0
 
 -- the square where a sign stands first

@@ -96,3 +96,90 @@ fn signs_of(heap: Global, rows: &[&[u8]], across: usize) -> Result<Vec<u8>, Unre
     }
     Ok(signs)
 }
+
+// Whether a sign is no letter, or a, or its forerunner stands somewhere among all signs.
+fn leads(all: &[u8], sign: u8) -> bool
+    ensures { λ r. ⌜ r ≡ is-led (now (all .entry)) sign ⌝ }
+{
+    if !is_bay_letter(sign) || sign == b'a' {
+        return true;
+    }
+    has(all, sign - 1)
+}
+
+// Whether each letter of a row other than a has its forerunner among all signs.
+fn letters_lead(all: &[u8], row: &[u8]) -> bool
+    ensures { λ r. ⌜ r ≡ every (is-led (now (all .entry))) (now (row .entry)) ⌝ }
+{
+    for sign in row {
+        if !leads(all, *sign) {
+            return false;
+        }
+    }
+    true
+}
+
+// The first row with a letter whose forerunner is missing.
+fn first_gap(all: &[u8], rows: &[&[u8]]) -> Option<u64>
+    ensures { λ r. ⌜ r ≡ gap 0 (now (all .entry)) (pieces (now (rows .entry))) ⌝ }
+{
+    for (i, row) in rows.iter().enumerate() {
+        if !letters_lead(all, row) {
+            return Some(i as u64);
+        }
+    }
+    None
+}
+
+fn mark_of(sign: u8) -> u8
+    ensures { λ r. ⌜ r ≡ wall-mark sign ⌝ }
+{
+    if sign == b'#' { 1 } else { 0 }
+}
+
+// A mark for each sign: 1 for a wall.
+fn walls_of(heap: Global, all: &[u8]) -> Result<Vec<u8>, AllocError>
+    ensures { λ r. ⌜ made r (λ v. vec-items v ≡ map wall-mark (now (all .entry))) ⌝ }
+{
+    let mut walls = Vec::new(heap);
+    for sign in all {
+        walls.push(mark_of(*sign))?;
+    }
+    Ok(walls)
+}
+
+// The square of each letter from a on, as far as they stand there.
+fn bays_of(heap: Global, all: &[u8]) -> Result<Vec<u16>, AllocError>
+    ensures { λ r. ⌜ made r (λ v. vec-items v ≡ bays-from 16 97 (now (all .entry))) ⌝ }
+{
+    let mut bays = Vec::new(heap);
+    for k in 0..16u8 {
+        let square = bytes_before(all, b'a' + k);
+        if square == all.len() {
+            return Ok(bays);
+        }
+        bays.push(square.min(65535) as u16)?;
+    }
+    Ok(bays)
+}
+
+// How long the first row is; 0 where there is none.
+fn across_in(rows: &[&[u8]]) -> usize
+    ensures { λ r. ⌜ r ≡ across-of (pieces (now (rows .entry))) ⌝ }
+{
+    if rows.is_empty() { 0 } else { rows[0].len() }
+}
+
+// The field that the rows show, or the first row at fault.
+pub fn read_field(heap: Global, rows: &[&[u8]]) -> Result<FieldText, Unread>
+    ensures { λ r. ⌜ Cases r (λ f. Shows (pieces (now (rows .entry))) (f .across) (f .down) (vec-items (f .walls)) (vec-items (f .bays))) (Tells (fault (pieces (now (rows .entry))))) ⌝ }
+{
+    let across = across_in(rows);
+    let signs = signs_of(heap, rows, across)?;
+    if let Some(line) = first_gap(signs.as_slice(), rows) {
+        return Err(Unread::Line(line));
+    }
+    let walls = walls_of(heap, signs.as_slice())?;
+    let bays = bays_of(heap, signs.as_slice())?;
+    Ok(FieldText { across: across as u64, down: rows.len() as u64, walls, bays })
+}

@@ -4,6 +4,7 @@ mod lines;
 mod unread;
 
 pub use fields::FieldText;
+pub use fields::read_field;
 pub use fields::rows_in;
 pub use lines::lines_of;
 pub use lines::words_of;
