@@ -24,11 +24,13 @@ is-bay f c = is-bay-to f (f .shuttles) c
 unfoldable pub free-square : Field → ℕ → Bool
 free-square f c = ltb c (f .across * f .down) && not (f .wall c)
 
--- a field that can be driven on: it has a square, and each bay is a free square and nobody else's bay
+-- the bay of shuttle i is a free square and no bay of a shuttle before it
+unfoldable pub bay-ok : Field → ℕ → Bool
+bay-ok f i = free-square f (f .bay i) && not (is-bay-to f i (f .bay i))
+
+-- a field that can be driven on: it has a square, and each bay is a free square and nobody else's
 unfoldable pub sound : Field → Bool
-sound f =
-    leb 1 (f .across) && (leb 1 (f .down)
-    && every-to (λ i. free-square f (f .bay i) && not (is-bay-to f i (f .bay i))) (f .shuttles))
+sound f = leb 1 (f .across) && (leb 1 (f .down) && every-to (bay-ok f) (f .shuttles))
 
 -- one of two squares lies right of the other, in the same row, or below it
 unfoldable pub beside : Field → ℕ → ℕ → Bool

@@ -1,0 +1,2 @@
+-- What is known of a field of the code.
+pub mod Facts

@@ -1,0 +1,2 @@
+-- What the code's field stands for.
+pub mod Model

@@ -1,0 +1,8 @@
+// Fields, squares and bays, over walls and bays that are lent.
+mod bays;
+mod field;
+mod marks;
+mod squares;
+
+pub use field::Field;
+pub use squares::is_field;

@@ -1,0 +1,2 @@
+-- How a route is judged.
+pub mod Judged

@@ -1,0 +1,3 @@
+-- Laws about the definitions of specs/, for the crates above.
+pub mod Tests
+pub mod Fields

@@ -1,0 +1,3 @@
+-- What the code's shuttles, fleets and masks stand for.
+pub mod Shuttles
+pub mod Masks
