@@ -1,3 +1,4 @@
 -- Lemmas behind the contracts.
 mod Cutting
 mod Reading
+mod Squares

@@ -2,6 +2,7 @@
 mod fields;
 mod lines;
 mod unread;
+mod ways;
 
 pub use fields::FieldText;
 pub use fields::read_field;
@@ -11,3 +12,6 @@ pub use lines::words_of;
 pub use unread::Unread;
 pub use unread::UnreadFromAlloc;
 pub use unread::UnreadFromRefused;
+pub use ways::Way;
+pub use ways::read_ways;
+pub use ways::squares_on;
