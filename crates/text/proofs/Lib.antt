@@ -2,3 +2,4 @@
 mod Cutting
 mod Reading
 mod Squares
+mod Verdicts

@@ -2,3 +2,5 @@
 pub mod Lines
 pub mod Fields
 pub mod Routes
+pub mod Printed
+pub mod Judged

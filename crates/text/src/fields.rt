@@ -39,7 +39,7 @@ pub fn rows_in(lines: &[&[u8]]) -> usize
     lines.len()
 }
 
-fn is_bay_letter(sign: u8) -> bool
+pub fn is_bay_letter(sign: u8) -> bool
     ensures { λ r. ⌜ r ≡ is-letter sign ⌝ }
 {
     sign >= b'a' && sign <= b'p'
