@@ -70,7 +70,7 @@ among-both c (b ∷ bs) t = grind (arith, tells, among-both c bs t)
 -- a sign more of a row: it fits, or not
 sign-next : (before row : List ℕ) (i : ℕ) → i < length row
     → signs-fit (before ++ take i row) (drop i row)
-      ≡ (sign-fits (before ++ take i row) (getD row i 0) && signs-fit (before ++ take (i + 1) row) (drop (i + 1) row))
+    ≡ (sign-fits (before ++ take i row) (getD row i 0) && signs-fit (before ++ take (i + 1) row) (drop (i + 1) row))
 unfolding signs-fit
 sign-next before row i h =
     rw (drop-more row i 0 h, take-more row i 0 h, ← append-assoc)
@@ -95,10 +95,11 @@ fit-more : (across : ℕ) (before : List ℕ) (rows : List (RefT (List ℕ))) (i
     → (misfit across i before (drop i (pieces rows)) ≡ misfit across (i + 1) (before ++ getD rows i d .now) (drop (i + 1) (pieces rows)))
     × (before ++ signs (drop i (pieces rows)) ≡ (before ++ getD rows i d .now) ++ signs (drop (i + 1) (pieces rows)))
 unfolding misfit signs
-fit-more across before rows i d h fits =
-    (ap (misfit across i before) (piece-next rows i d h) ∙ cond-true _ _ _ (sym fits)
-    ∙ ap (λ k. misfit across k (before ++ getD rows i d .now) (drop (i + 1) (pieces rows))) (sym (add-one i)),
-    ap (λ l. before ++ signs l) (piece-next rows i d h) ∙ sym (append-assoc before (getD rows i d .now) (signs (drop (i + 1) (pieces rows)))))
+fit-more across before rows i d h fits = (
+  ap (misfit across i before) (piece-next rows i d h) ∙ cond-true _ _ _ (sym fits)
+      ∙ ap (λ k. misfit across k (before ++ getD rows i d .now) (drop (i + 1) (pieces rows))) (sym (add-one i)),
+  ap (λ l. before ++ signs l) (piece-next rows i d h) ∙ sym (append-assoc before (getD rows i d .now) (signs (drop (i + 1) (pieces rows)))),
+)
 
 -- the same where the signs before are `was` and those after it `next`
 pub fit-turn : (across : ℕ) (was before next : List ℕ) (rows : List (RefT (List ℕ))) (i : ℕ) (d : RefT (List ℕ)) → i < length rows
@@ -106,9 +107,10 @@ pub fit-turn : (across : ℕ) (was before next : List ℕ) (rows : List (RefT (L
     → (misfit across (i + 1) next (drop (i + 1) (pieces rows)) ≡ misfit across i before (drop i (pieces rows)))
     × (next ++ signs (drop (i + 1) (pieces rows)) ≡ before ++ signs (drop i (pieces rows)))
 fit-turn across was before next rows i d h fits same more =
-    let both = fit-more across before rows i d h (fits ∙ ap (λ l. row-fits across l (getD rows i d .now)) same) in
-    (ap (λ l. misfit across (i + 1) l (drop (i + 1) (pieces rows))) more ∙ sym (both .0),
-    ap (λ l. l ++ signs (drop (i + 1) (pieces rows))) more ∙ sym (both .1))
+    let both = fit-more across before rows i d h (fits ∙ ap (λ l. row-fits across l (getD rows i d .now)) same) in (
+      ap (λ l. misfit across (i + 1) l (drop (i + 1) (pieces rows))) more ∙ sym (both .0),
+      ap (λ l. l ++ signs (drop (i + 1) (pieces rows))) more ∙ sym (both .1),
+    )
 
 pub fit-wrong : (across : ℕ) (before : List ℕ) (rows : List (RefT (List ℕ))) (i : ℕ) (d : RefT (List ℕ)) → i < length rows
     → false ≡ row-fits across before (getD rows i d .now) → misfit across i before (drop i (pieces rows)) ≡ Some i

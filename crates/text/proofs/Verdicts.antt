@@ -31,7 +31,7 @@ pub judged-absent : (f : Field) (place i : ℕ) (o : Option (List Way)) (ways : 
 unfolding judged-ways
 judged-absent f place i o ways is no-one =
     let test : (ltb i (f .shuttles) && leb (length ways) 256) ≡ false =
-      ⊎-elim (λ h. and-left _ _ (le-ltb _ _ h)) (λ h. and-right _ _ (lt-leb _ _ h)) no-one
+    ⊎-elim (λ h. and-left _ _ (le-ltb _ _ h)) (λ h. and-right _ _ (lt-leb _ _ h)) no-one
     in
     sym (ap (judged-ways f place i) is ∙ cond-false _ _ _ test)
 

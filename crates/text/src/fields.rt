@@ -1,7 +1,7 @@
 // A field is read from rows of signs.
 ghost use mathlib.Core.Path.{_≡_};
 ghost use mathlib.Core.List.{[], _++_, map};
-ghost use Prim.Native.Nat.{_<_};
+ghost use Prim.Native.Nat.{_≤_};
 ghost use lib.ListN.{length};
 ghost use Rattle.std.specs.Of.Vec.{vec-items};
 ghost use Rattle.std.specs.Results.{Cases};
@@ -29,7 +29,8 @@ pub struct FieldText {
 
 // How many lines stand before the first empty one: the rows of a field.
 pub fn rows_in(lines: &[&[u8]]) -> usize
-    ensures { λ r. ⌜ r ≡ row-count (pieces (now (lines .entry))) ⌝ }
+    ensures value { λ r. ⌜ r ≡ row-count (pieces (now (lines .entry))) ⌝ }
+    ensures bound { λ r. ⌜ r ≤ length (now (lines .entry)) ⌝ }
 {
     for (i, line) in lines.iter().enumerate() {
         if line.is_empty() {
@@ -61,7 +62,11 @@ fn has(signs: &[u8], sign: u8) -> bool
 fn sign_follows(before: &[u8], row: &[u8], sign: u8) -> bool
     ensures { λ r. ⌜ r ≡ sign-fits (now (before .entry) ++ now (row .entry)) sign ⌝ }
 {
-    if is_bay_letter(sign) { !has(before, sign) && !has(row, sign) } else { is_field_sign(sign) }
+    if is_bay_letter(sign) {
+        !has(before, sign) && !has(row, sign)
+    } else {
+        is_field_sign(sign)
+    }
 }
 
 // Whether each sign of a row follows those before it.
@@ -181,5 +186,10 @@ pub fn read_field(heap: Global, rows: &[&[u8]]) -> Result<FieldText, Unread>
     }
     let walls = walls_of(heap, signs.as_slice())?;
     let bays = bays_of(heap, signs.as_slice())?;
-    Ok(FieldText { across: across as u64, down: rows.len() as u64, walls, bays })
+    Ok(FieldText {
+        across: across as u64,
+        down: rows.len() as u64,
+        walls,
+        bays,
+    })
 }

@@ -18,7 +18,13 @@ use std::alloc::AllocError;
 use std::alloc::Global;
 
 // What the letters are judged to be, as a route of the shuttle from its bay; `place` is the number of their line.
-fn judge_letters(heap: Global, field: &Field, place: u64, shuttle: usize, letters: &[u8]) -> Result<Judgement, AllocError>
+fn judge_letters(
+    heap: Global,
+    field: &Field,
+    place: u64,
+    shuttle: usize,
+    letters: &[u8],
+) -> Result<Judgement, AllocError>
     ensures { λ r. ⌜ made r (λ j. j ≡ judged-ways (field-of (now (field .entry))) place shuttle (ways-in (now (letters .entry)))) ⌝ }
 {
     let Some(ways) = read_ways(heap, letters)? else {
@@ -44,7 +50,13 @@ fn has_prefix(line: &[u8]) -> bool
 }
 
 // What the k-th line of the rest, which is the line at `place` of the whole text, is judged to be.
-pub fn judge_line(heap: Global, field: &Field, place: u64, k: usize, line: &[u8]) -> Result<Judgement, AllocError>
+pub fn judge_line(
+    heap: Global,
+    field: &Field,
+    place: u64,
+    k: usize,
+    line: &[u8],
+) -> Result<Judgement, AllocError>
     ensures { λ r. ⌜ made r (λ j. j ≡ judged-line (field-of (now (field .entry))) place k (now (line .entry))) ⌝ }
 {
     if has_prefix(line) {

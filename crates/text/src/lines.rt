@@ -30,7 +30,11 @@ fn strip_return(line: &[u8]) -> &[u8]
     ensures { λ r. ⌜ now r ≡ without-return (now (line .entry)) ⌝ }
 {
     let n = line.len();
-    if n > 0 && line[n - 1] == 13 { &line[0..n - 1] } else { line }
+    if n > 0 && line[n - 1] == 13 {
+        &line[0..n - 1]
+    } else {
+        line
+    }
 }
 
 // The first line of a text that has a byte, and what follows its end.

@@ -53,7 +53,11 @@ fn step_to(across: u64, squares: u64, c: u64, way: Way) -> u64
 {
     match way {
         Way::Left => if c % across > 0 { c - 1 } else { c },
-        Way::Right => if c % across + 1 < across && c + 1 < squares { c + 1 } else { c },
+        Way::Right => if c % across + 1 < across && c + 1 < squares {
+            c + 1
+        } else {
+            c
+        },
         Way::Up => if c >= across { c - across } else { c },
         Way::Down => if c + across < squares { c + across } else { c },
     }
@@ -67,7 +71,12 @@ fn step_from(field: &Field, square: u16, way: Way) -> u16
 }
 
 // The squares that the ways lead over.
-pub fn squares_on(heap: Global, field: &Field, from: u16, ways: &[Way]) -> Result<Vec<u16>, AllocError>
+pub fn squares_on(
+    heap: Global,
+    field: &Field,
+    from: u16,
+    ways: &[Way],
+) -> Result<Vec<u16>, AllocError>
     ensures { λ r. ⌜ made r (λ v. vec-items v ≡ squares-of (now (field .entry) .across) (now (field .entry) .down) from (now (ways .entry))) ⌝ }
 {
     let mut squares = Vec::new(heap);

@@ -24,8 +24,8 @@ returns c =
     let are = c .in-Continue-signs .ensures tt .1 in
     record {
       readable =
-        fault-gap (pieces (c .args .rows .now)) (c .across-in-across .result) (c .as-slice .result .now) _ (c .across-in-across .ensures)
-        (c .in-Continue-signs .ensures tt .0) (c .as-slice .ensures .value ∙ are) (sym (c .first-gap .ensures) ∙ c .in-rest .is);
+          fault-gap (pieces (c .args .rows .now)) (c .across-in-across .result) (c .as-slice .result .now) _ (c .across-in-across .ensures)
+          (c .in-Continue-signs .ensures tt .0) (c .as-slice .ensures .value ∙ are) (sym (c .first-gap .ensures) ∙ c .in-rest .is);
       is-across = c .across-in-across .ensures;
       is-down = sym (length-map (c .args .rows .now) (λ r. r .now));
       are-walls = c .in-Continue-walls .ensures tt ∙ ap (map wall-mark) (c .as-slice-2 .ensures .value ∙ are);

@@ -15,8 +15,8 @@ returns-then-not-row-follows c =
 pub loop-i-again : need.loop-i-again
 loop-i-again c =
     let turn =
-      fit-turn (c .args .across) (c .as-slice .result .now) (vec-items (c .loop-i .signs)) (vec-items (c .extend-from-slice .last .self)) (c .args .rows .now) (c .loop-i .i) _
-      (omega arith) (c .if-not-row-follows .ensures tt) (c .as-slice .ensures .value) (c .in-Continue-extend-from-slice .ensures tt .items)
+    fit-turn (c .args .across) (c .as-slice .result .now) (vec-items (c .loop-i .signs)) (vec-items (c .extend-from-slice .last .self)) (c .args .rows .now) (c .loop-i .i) _
+    (omega arith) (c .if-not-row-follows .ensures tt) (c .as-slice .ensures .value) (c .in-Continue-extend-from-slice .ensures tt .items)
     in
     (turn .0 ∙ c .loop-i .inv .0, turn .1 ∙ c .loop-i .inv .1)
 

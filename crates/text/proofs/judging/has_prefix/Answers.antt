@@ -12,9 +12,9 @@ pub returns-then-line-lt2 : need.returns-then-line-lt2
 returns-then-line-lt2 c =
     record {
       value =
-        elim (c .then-line-lt2 .came) [
-          then-line-lt2·by·then-line-lt2 w ↦ sym (short-plain (c .args .line .now) (w .if-line-lt2 .taken))
-        | then-line-lt2·by·else-line-lt2·then-line-ne32 w ↦ sym (and-right (is-letter (getD (c .args .line .now) 0 0)) _ (ne-eqb _ 32 (w .if-line-ne32 .taken)))
-        ];
+          elim (c .then-line-lt2 .came) [
+            | then-line-lt2·by·then-line-lt2 w ↦ sym (short-plain (c .args .line .now) (w .if-line-lt2 .taken))
+            | then-line-lt2·by·else-line-lt2·then-line-ne32 w ↦ sym (and-right (is-letter (getD (c .args .line .now) 0 0)) _ (ne-eqb _ 32 (w .if-line-ne32 .taken)))
+          ];
       long = λ e. absurd (false≢true e);
     }

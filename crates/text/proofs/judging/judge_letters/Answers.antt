@@ -23,8 +23,8 @@ returns-then-shuttle-field c =
     judged-absent (field-of (c .args .field .now)) (c .args .place) (c .args .shuttle) (ways-in (c .args .letters .now)) (vec-items (c .in-Some .ways))
     (sym (c .in-Continue-ways .ensures tt) ∙ ap (mapped vec-items) (c .in-Some .is))
     (elim (c .then-shuttle-field .came) [
-      then-shuttle-field·by·then-shuttle-field w ↦ inl (w .if-shuttle-field .taken)
-    | then-shuttle-field·by·else-shuttle-field·then-len-gt256 w ↦ inr (omega (arith, w .len .ensures, c .in-Some .ways .ok .0))
+      | then-shuttle-field·by·then-shuttle-field w ↦ inl (w .if-shuttle-field .taken)
+      | then-shuttle-field·by·else-shuttle-field·then-len-gt256 w ↦ inr (omega (arith, w .len .ensures, c .in-Some .ways .ok .0))
     ])
 
 pub returns : need.returns

@@ -17,6 +17,6 @@ pub returns-else-end-text : need.returns-else-end-text
 returns-else-end-text c =
     record {
       cut =
-        let off = line-off (c .args .text .now) (c .bytes-before-end .result) (c .bytes-before-end .ensures .value) (omega (arith, c .bytes-before-end .ensures .bound)) in cc;
+          let off = line-off (c .args .text .now) (c .bytes-before-end .result) (c .bytes-before-end .ensures .value) (omega (arith, c .bytes-before-end .ensures .bound)) in cc;
       less = rw (take-rest, length-drop) (omega arith);
     }

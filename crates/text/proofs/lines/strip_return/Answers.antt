@@ -14,6 +14,6 @@ returns-then-line-n-eq13 c =
 pub returns-else-n-gt0 : need.returns-else-n-gt0
 returns-else-n-gt0 c =
     elim (c .else-n-gt0 .came) [
-      else-n-gt0·by·then-n-gt0·else-line-n-eq13 w ↦ no-return (c .args .line .now) (length (c .args .line .now) - 1) (omega arith) (w .if-line-n-eq13 .left)
-    | else-n-gt0·by·else-n-gt0 w ↦ none-stays (c .args .line .now) (omega arith)
+      | else-n-gt0·by·then-n-gt0·else-line-n-eq13 w ↦ no-return (c .args .line .now) (length (c .args .line .now) - 1) (omega arith) (w .if-line-n-eq13 .left)
+      | else-n-gt0·by·else-n-gt0 w ↦ none-stays (c .args .line .now) (omega arith)
     ]
