@@ -1,0 +1,2 @@
+-- What is asked for on a line of commands, and the picture of the hall.
+pub mod Commands
