@@ -1,12 +1,12 @@
 -- Who can go, by ranks: a number for each so that blockers have smaller ones.
-use mathlib.Core.Path.{_≡_, refl, sym, ap, subst, _∙_}
-use mathlib.Core.Bool.{Bool, true, false, not, cond, _&&_, _||_}
-use mathlib.Core.List.{List, [], _∷_, _++_}
-use mathlib.Core.Logic.{_⊎_, inl, inr, ⊎-elim}
-use Prim.Native.Nat.{ℕ, zero, suc, _<_, _≤_}
+use mathlib.Core.Path.{_≡_, sym, ap, subst, _∙_}
+use mathlib.Core.Bool.{Bool, true, false, not, cond, _||_}
+use mathlib.Core.List.{List, _++_}
+use mathlib.Core.Logic.{⊎-elim}
+use Prim.Native.Nat.{ℕ, zero, suc, _<_}
 use native.Mathlib.Omega.{arith}
-use lib.Dec.{eqb, ltb}
-use Rattle.std.proofs.shelf.Tests.{cases-bool, cases-eq, both-ways, and-parts}
+use lib.Dec.{eqb}
+use Rattle.std.proofs.shelf.Tests.{cases-bool, both-ways, and-parts}
 use Rattle.std.proofs.shelf.Ways.{tells}
 use Rattle.agents.specs.Numbers.{among, all-to}
 use Rattle.agents.specs.Going.{CanGo, goes, clear, take-out, left-over}
@@ -32,7 +32,8 @@ rounds zero w k is i = 0
 rounds (suc m) w k is i = cond (among i is) (suc (rounds m w k (take-out w k is is) i)) 0
 
 -- another that blocks one that is taken out is taken out earlier
-rounds-fall : (m : ℕ) (w : ℕ → ℕ → Bool) (k : ℕ → Bool) (is : List ℕ) (i j : ℕ) → among i is ≡ true → among i (left-over m w k is) ≡ false → (i ≡ j → ⊥) → w i j ≡ true →
+rounds-fall : (m : ℕ) (w : ℕ → ℕ → Bool) (k : ℕ → Bool) (is : List ℕ) (i j : ℕ) → among i is ≡ true → among i (left-over m w k is) ≡ false →
+    (i ≡ j → ⊥) → w i j ≡ true →
     rounds m w k is j < rounds m w k is i
 unfolding rounds left-over
 rounds-fall zero w k is i j a e ne v = absurd (both-ways _ e a)
@@ -41,7 +42,8 @@ rounds-fall (suc m) w k is i j a e ne v =
     let next : among i js ≡ true → rounds m w k js j < rounds m w k js i = λ a′. rounds-fall m w k js i j a′ e ne v in
     ⊎-elim
     (λ a′. let h = next a′ in grind arith)
-    (λ (a′ : among i js ≡ false). let h : among j is ≡ false = false-from (among j is) (λ b. both-ways (w i j) (clear-tells w i is (last a′) j ne b) v) in grind arith)
+    (λ (a′ : among i js ≡ false). let h : among j is ≡ false = false-from (among j is)
+    (λ b. both-ways (w i j) (clear-tells w i is (last a′) j ne b) v) in grind arith)
     (cases-bool (among i js))
   where
     last : among i (take-out w k is is) ≡ false → clear w i is ≡ true
@@ -56,6 +58,11 @@ rounds-fall (suc m) w k is i j a e ne v =
         (take-out-is w k is is)
 
 -- those who can go have ranks
-pub go-ranked : (n : ℕ) (w : ℕ → ℕ → Bool) (k : ℕ → Bool) → (rank : ℕ → ℕ) × ((i j : ℕ) → CanGo n w k i → j < n → (i ≡ j → ⊥) → w i j ≡ true → rank j < rank i)
-go-ranked n w k =
-    (rounds n w k (all-to n), λ i j g l ne v. let h = below g in rounds-fall n w k (all-to n) i j (among-all-to n i ∙ grind (arith, tells)) (set-stuck n w k (λ i. among i (left-over n w k (all-to n))) (left-over-all n w k .2) g) ne v)
+pub go-ranked : (n : ℕ) (w : ℕ → ℕ → Bool) (k : ℕ → Bool) →
+    (rank : ℕ → ℕ) × ((i j : ℕ) → CanGo n w k i → j < n → (i ≡ j → ⊥) → w i j ≡ true → rank j < rank i)
+go-ranked n w k = (
+  rounds n w k (all-to n),
+  λ i j g l ne v. let h = below g in
+      rounds-fall n w k (all-to n) i j (among-all-to n i ∙ grind (arith, tells))
+      (set-stuck n w k (λ i. among i (left-over n w k (all-to n))) (left-over-all n w k .2) g) ne v,
+)

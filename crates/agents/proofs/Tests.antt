@@ -1,13 +1,14 @@
 -- What the small tests on numbers and lists tell, each as facts and back.
-use mathlib.Core.Path.{_≡_, refl, sym, ap, subst, _∙_}
-use mathlib.Core.Bool.{Bool, true, false, not, _&&_, _||_}
+use mathlib.Core.Path.{_≡_, refl, sym, subst}
+use mathlib.Core.Bool.{Bool, true, false, not, _||_}
 use mathlib.Core.List.{List, [], _∷_, _++_}
 use mathlib.Core.Logic.{_⊎_, inl, inr, ⊎-elim}
 use Prim.Native.Nat.{ℕ, zero, suc, _<_}
 use native.Mathlib.Omega.{arith}
 use lib.Dec.{eqb, ltb}
 use Rattle.std.specs.Orderings.{Decides}
-use Rattle.std.proofs.shelf.Tests.{cases-eq, cases-bool, eqb-true, eq-eqb, or-cases, or-left, or-right, or-parts, and-parts, and-cases, and-from, both-ways, not-from-false}
+use Rattle.std.proofs.shelf.Tests.{cases-eq, cases-bool, eqb-true, or-cases, or-left, or-right}
+use Rattle.std.proofs.shelf.Tests.{and-parts, and-cases, both-ways, not-from-false}
 use Rattle.std.proofs.shelf.Ways.{tells, same-from-decides, decides-below-and}
 use Rattle.agents.specs.Numbers.{among, meets, all-below, all-to}
 use Rattle.agents.specs.Going.{clear}
@@ -27,19 +28,24 @@ some-below (suc n) p = ⊎-elim
     (λ e. inl (n, omega arith, e))
     (λ e. ⊎-elim
     (λ (t : (j : ℕ) × (j < n) × (p j ≡ true)). inl (t .0, omega arith, t .2))
-    (λ (f : (j : ℕ) → j < n → p j ≡ false). inr (λ j l. ⊎-elim (λ q. subst (λ x. p x ≡ false) (sym q) e) (λ ne. f j (omega arith)) (cases-eq j n)))
+    (λ (f : (j : ℕ) → j < n → p j ≡ false). inr
+    (λ j l. ⊎-elim (λ q. subst (λ x. p x ≡ false) (sym q) e) (λ ne. f j (omega arith)) (cases-eq j n)))
     (some-below n p))
     (cases-bool (p n))
 
 -- a test of every number below n, by what the test tells of one
-pub all-below-is : (n : ℕ) (p : ℕ → Bool) (P : ℕ → Type 0) → ((i : ℕ) → Decides (p i) (P i)) → Decides (all-below n p) ((i : ℕ) → i < n → P i)
+pub all-below-is : (n : ℕ) (p : ℕ → Bool) (P : ℕ → Type 0) → ((i : ℕ) → Decides (p i) (P i)) →
+    Decides (all-below n p) ((i : ℕ) → i < n → P i)
 unfolding all-below
 all-below-is n p P each = decides-below-and p P (λ m. all-below m p) each refl (λ _. refl) n
 
 -- a test that one thing follows from another
 pub follows-is : {P Q : Type 0} (a b : Bool) → Decides a P → Decides b Q → Decides (not a || b) (P → Q)
-follows-is a b p q =
-    (λ e h. q .0 (let f = p .1 h in grind arith), λ f. ⊎-elim (λ e. or-right _ _ (q .1 (f (p .0 e)))) (λ e. or-left _ _ (not-from-false a e)) (cases-bool a))
+follows-is a b p q = (
+  λ e h. q .0 (let f = p .1 h in grind arith),
+  λ f. ⊎-elim (λ e. or-right _ _ (q .1 (f (p .0 e))))
+      (λ e. or-left _ _ (not-from-false a e)) (cases-bool a),
+)
 
 pub among-here : (x : ℕ) (xs : List ℕ) → among x (x ∷ xs) ≡ true
 unfolding among
@@ -83,7 +89,8 @@ clear-tells w i (x ∷ is) c j ne m = ⊎-elim
     (λ e. clear-tells w i is (and-parts _ _ c .1) j ne e)
     (or-cases _ _ m)
 
-pub clear-from : (w : ℕ → ℕ → Bool) (i : ℕ) (is : List ℕ) → ((j : ℕ) → (i ≡ j → ⊥) → among j is ≡ true → w i j ≡ false) → clear w i is ≡ true
+pub clear-from : (w : ℕ → ℕ → Bool) (i : ℕ) (is : List ℕ) → ((j : ℕ) → (i ≡ j → ⊥) → among j is ≡ true → w i j ≡ false) →
+    clear w i is ≡ true
 unfolding clear among
 clear-from w i [] f = refl
 clear-from w i (x ∷ is) f =
@@ -92,9 +99,11 @@ clear-from w i (x ∷ is) f =
     grind (arith, tells)
 
 -- who is not clear of a list is blocked by another of it
-pub clear-not : (w : ℕ → ℕ → Bool) (i : ℕ) (is : List ℕ) → clear w i is ≡ false → (j : ℕ) × (i ≡ j → ⊥) × (among j is ≡ true) × (w i j ≡ true)
+pub clear-not : (w : ℕ → ℕ → Bool) (i : ℕ) (is : List ℕ) → clear w i is ≡ false →
+    (j : ℕ) × (i ≡ j → ⊥) × (among j is ≡ true) × (w i j ≡ true)
 unfolding clear among
 clear-not w i [] c = absurd (both-ways true c refl)
 clear-not w i (x ∷ is) c =
     let rest : clear w i is ≡ false → (j : ℕ) × (i ≡ j → ⊥) × (among j is ≡ true) × (w i j ≡ true) = clear-not w i is in
-    ⊎-elim (λ (p : (eqb i x || not (w i x)) ≡ false). (x, grind (arith, tells), among-here x is, grind (arith, tells))) (λ p. (rest p .0, rest p .1, or-right _ _ (rest p .2), rest p .3)) (and-cases _ _ c)
+    ⊎-elim (λ (p : (eqb i x || not (w i x)) ≡ false). (x, grind (arith, tells), among-here x is, grind (arith, tells)))
+    (λ p. (rest p .0, rest p .1, or-right _ _ (rest p .2), rest p .3)) (and-cases _ _ c)

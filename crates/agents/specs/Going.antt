@@ -1,4 +1,5 @@
--- Who can go. Agents are the numbers below n; `w i j` says that j blocks i, where i and j are different; `k i` says that i is closed, and so stays where it is.
+-- Who can go. Agents are the numbers below n; `w i j` says that j blocks i, where i and j are different; `k i` says that i is closed, and
+-- so stays where it is.
 use mathlib.Core.Path.{_≡_}
 use mathlib.Core.Logic.{_⊎_}
 use mathlib.Core.Bool.{Bool, true, false, not, cond, _&&_, _||_}

@@ -1,12 +1,13 @@
 -- Fleets of agents of any type S that hold places (numbers), and the one rule by which a change of an agent is granted.
 use mathlib.Core.Path.{_≡_}
-use mathlib.Core.Bool.{Bool, true, false, not, cond, _&&_, _||_}
+use mathlib.Core.Bool.{Bool, false, not, cond, _&&_, _||_}
 use mathlib.Core.List.{List}
 use Prim.Native.Nat.{ℕ, zero, suc, _+_, _<_}
 use lib.Dec.{eqb}
 use Rattle.agents.specs.Numbers.{meets, all-below}
 use Rattle.agents.specs.Going.{CanGo, can-go}
 
+-- what the rule has to know of an agent
 pub record Kind (S : Type 0) : Type 0 where
   -- the places that it holds now
   pub held : S → List ℕ
@@ -50,11 +51,12 @@ keeps K n g h = all-below (K .closings) (λ l. all-below n (λ i. not (goes-unde
 unfoldable pub free-for : {S : Type 0} → Kind S → ℕ → (ℕ → S) → ℕ → List ℕ → Bool
 free-for K n g i cs = all-below n (λ j. eqb i j || not (meets (K .held (g j)) cs))
 
--- agent i may change to s and enter the places cs: no other holds any of them, everybody can go after it, and it keeps whoever can go in each closing
+-- agent i may change to s and enter the places cs: no other holds any of them, everybody can go after it, and in each closing it keeps
+-- whoever can go
 unfoldable pub may : {S : Type 0} → Kind S → ℕ → (ℕ → S) → ℕ → List ℕ → S → Bool
 may K n g i cs s = free-for K n g i cs && (all-go K n (put g i s) && keeps K n g (put g i s))
 
--- the same as facts, not by trying
+-- What the tests above find by trying, as facts:
 
 -- agent i can go while those are closed of which c holds
 abbrev pub Goes-under : {S : Type 0} → Kind S → ℕ → (ℕ → S) → (S → Bool) → ℕ → Type 0

@@ -1,4 +1,5 @@
--- What is proved of agents that block each other. Each statement is a type; a function of src/ names it in its contract, so that its proof is owed.
+-- What is proved of agents that block each other. Each statement is a type; a function of src/ names it in its contract, so that its proof
+-- is owed.
 use mathlib.Core.Path.{_≡_}
 use mathlib.Core.Bool.{Bool, true, false, not}
 use mathlib.Core.List.{List, _++_}
@@ -13,9 +14,18 @@ use Rattle.agents.specs.Kinds.{Kind, put, blocks, may, Goes-under, All-go, Kep
 abbrev pub Taking-out-is-right : Type 0
 Taking-out-is-right = (n : ℕ) (w : ℕ → ℕ → Bool) (k : ℕ → Bool) (i : ℕ) → (can-go n w k i ≡ true) ↔ CanGo n w k i
 
--- taking out in any order finds the same: a set outside of which all can go, and in which nobody can go at once, is the set of those who cannot go
+-- taking out in any order finds the same: where all outside of a set can go and nobody in it can go at once, it is the set of those who
+-- cannot go
 abbrev pub Any-order-is-right : Type 0
-Any-order-is-right = (n : ℕ) (w : ℕ → ℕ → Bool) (k : ℕ → Bool) (In : ℕ → Bool) → Others-go n w k In → None-free n w k In → (i : ℕ) → i < n → can-go n w k i ≡ not (In i)
+Any-order-is-right =
+    (n : ℕ) (w : ℕ → ℕ → Bool) (k : ℕ → Bool) (In : ℕ → Bool) → Others-go n w k In → None-free n w k In →
+    (i : ℕ) → i < n → can-go n w k i ≡ not (In i)
+
+-- so with nobody closed trying leaves nobody exactly if the set is empty
+abbrev pub Any-order-tries : Type 0
+Any-order-tries =
+    (n : ℕ) (w : ℕ → ℕ → Bool) (In : ℕ → Bool) → Others-go n w nobody In → None-free n w nobody In →
+    (try n w (all-to n) ≡ true) ↔ ((i : ℕ) → i < n → In i ≡ false)
 
 -- an order in which all go exists exactly if trying leaves nobody, and exactly if everybody can go
 abbrev pub Orders-are-found : Type 0
@@ -43,18 +53,23 @@ Goes-or-waits =
 abbrev pub May-is-granted : Type 0 → Type 0
 May-is-granted S = (K : Kind S) (n : ℕ) (g : ℕ → S) (i : ℕ) (cs : List ℕ) (s : S) → (may K n g i cs s ≡ true) ↔ Granted K n g i cs s
 
--- a granted change keeps safety: where no two hold a place together and the agent holds after it only what it held or entered, no two do after it, everybody can go, and whoever could go in a closing still can
+-- a granted change keeps safety: where no two hold a place together and the agent holds after it only what it held or entered, no two do
+-- after it, everybody can go, and whoever could go in a closing still can
 abbrev pub Grants-keep-safety : Type 0 → Type 0
 Grants-keep-safety S =
-    (K : Kind S) (n : ℕ) (g : ℕ → S) (i : ℕ) (cs : List ℕ) (s : S) → i < n → Apart K n g → Within (K .held s) (cs ++ K .held (g i)) → may K n g i cs s ≡ true →
+    (K : Kind S) (n : ℕ) (g : ℕ → S) (i : ℕ) (cs : List ℕ) (s : S) → i < n → Apart K n g → Within (K .held s) (cs ++ K .held (g i)) →
+    may K n g i cs s ≡ true →
     Apart K n (put g i s) × All-go K n (put g i s) × ((l : ℕ) → l < K .closings → Kept K n g (put g i s) (K .shut l))
 
--- somebody is granted what it needs: where each holds only where it settles, everybody can go when nobody is closed, idle ones block nobody, and one that is not idle
--- can go under the largest closing, so can some k that is not idle, and k may make every change that enters part of what it needs, leaves part of it and leaves k not closed
+-- somebody is granted what it needs: where each holds only where it settles, everybody can go when nobody is closed, idle ones block
+-- nobody, and one that is not idle can go under the largest closing, so can some k that is not idle; and k may make every change that
+-- enters part of what it needs, leaves part of it and does not close k
 abbrev pub Some-goes : Type 0 → Type 0
 Some-goes S =
     (K : Kind S) (n : ℕ) (g : ℕ → S) (top : S → Bool) → ((l : ℕ) (s : S) → l < K .closings → K .shut l s ≡ true → top s ≡ true) →
     ((i : ℕ) → i < n → Within (K .held (g i)) (K .settled (g i))) → All-go K n g →
     ((i j : ℕ) → i < n → j < n → (i ≡ j → ⊥) → K .idle (g j) ≡ true → blocks K g i j ≡ false) →
     (i : ℕ) → Goes-under K n g top i → K .idle (g i) ≡ false →
-    (k : ℕ) × Goes-under K n g top k × (K .idle (g k) ≡ false) × ((cs : List ℕ) (s : S) → Within cs (K .needs (g k)) → Within (K .needs s) (K .needs (g k)) → top s ≡ false → may K n g k cs s ≡ true)
+    (k : ℕ) × Goes-under K n g top k × (K .idle (g k) ≡ false) ×
+    ((cs : List ℕ) (s : S) → Within cs (K .needs (g k)) → Within (K .needs s) (K .needs (g k)) → top s ≡ false →
+    may K n g k cs s ≡ true)

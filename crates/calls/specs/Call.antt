@@ -1,6 +1,6 @@
 -- What a call of the entry answers and leaves, memory that calls have led to, and what is promised of it.
 use mathlib.Core.Path.{_≡_}
-use mathlib.Core.Bool.{Bool, true, false}
+use mathlib.Core.Bool.{Bool, true, false, _&&_}
 use mathlib.Core.List.{List, [], _∷_}
 use mathlib.Core.Logic.{_⊎_}
 use Prim.Native.Nat.{ℕ, zero, suc, _+_, _*_, _≤_, _<_}
@@ -8,11 +8,11 @@ use lib.ListN.{length, getD}
 use Rattle.rules.specs.Tests.{is-empty}
 use Rattle.rules.specs.Field.{Field}
 use Rattle.rules.specs.Route.{route-ok}
-use Rattle.rules.specs.Shuttle.{Shuttle, Fleet, holds, put}
+use Rattle.rules.specs.Shuttle.{Shuttle, holds}
 use Rattle.rules.specs.Safe.{Safe}
-use Rattle.rules.specs.Event.{Event, does, who, becomes, happens, after}
-use Rattle.promise.specs.Promise.{All-home, Placed, sum-to, squares-left}
-use Rattle.rules.specs.Memory.{field-in, field-ok, shuttle-in, memory-ok, event-in, refusal, stored, started}
+use Rattle.rules.specs.Event.{Event, order, step, arrive, does, who, becomes, happens, after}
+use Rattle.promise.specs.Promise.{All-home, Placed, sum-to, squares-left, events-left}
+use Rattle.rules.specs.Memory.{field-in, field-ok, shuttle-in, memory-ok, event-ok, event-in, refusal, stored, started}
 
 -- the number of an answer: 0 it happened, 1 it did not, 16 + k it is turned away by k
 -- what a call with this refusal (0: none) answers, as a number, and the memory that it leaves
@@ -22,12 +22,12 @@ Says zero f m e n m₁ =
     ⊎ ((n ≡ 1) × (does f (shuttle-in m) e ≡ false) × (m₁ ≡ m))
 Says (suc k) f m e n m₁ = (n ≡ 16 + suc k) × (m₁ ≡ m)
 
--- what writing a shuttle into memory does: that shuttle is read as written, every other as it was; the length and each place that isn't needed stay
+-- what writing a shuttle into memory does: that shuttle is read as written, and any other that has room for what is left of it as it was; the length stays, and each place outside the numbers written
 pub record Written (m : List ℕ) (i : ℕ) (s : Shuttle) : Type 0 where
-  pub reads : (j : ℕ) → shuttle-in (stored m i s) j ≡ put (shuttle-in m) i s j
+  pub its-own : shuttle-in (stored m i s) i ≡ s
+  pub others : (j : ℕ) → (j ≡ i → ⊥) → getD m (260 * j + 3) 0 ≤ 256 → shuttle-in (stored m i s) j ≡ shuttle-in m j
   pub same-length : length (stored m i s) ≡ length m
-  pub rest : (j k : ℕ) → length (put (shuttle-in m) i s j .route) ≤ k → k < 256
-      → getD (stored m i s) (260 * j + (4 + k)) 0 ≡ getD m (260 * j + (4 + k)) 0
+  pub rest : (p : ℕ) → (p < 260 * i) ⊎ (260 * i + (4 + length (s .route)) ≤ p) → getD (stored m i s) p 0 ≡ getD m p 0
 
 -- memory of n shuttles keeps apart what is written of each
 abbrev pub Stored-is-read : Type 0
@@ -61,6 +61,28 @@ Follows =
     (a d : ℕ) (ws bs : List ℕ) (es : List Event) (m : List ℕ) → Played a d ws bs es m
     → (memory-ok (a * d) (length bs) m ≡ true) × ((i : ℕ) → shuttle-in m i ≡ after (field-in a d ws bs) es i)
 
+-- the kind of an event's call, and the route that is handed over with it
+unfoldable pub kind-of : Event → ℕ
+kind-of (order i r) = 0
+kind-of (step i) = 1
+kind-of (arrive i) = 2
+
+unfoldable pub route-of : Event → List ℕ
+route-of (order i r) = r
+route-of (step i) = []
+route-of (arrive i) = []
+
+-- the calls of these events are accepted where there are n shuttles
+unfoldable pub events-ok : ℕ → List Event → Bool
+events-ok n [] = true
+events-ok n (e ∷ es) = event-ok n (kind-of e) (who e) (route-of e) && events-ok n es
+
+-- each row of accepted events is that of some calls, so that what is promised of memory is promised after each such row
+abbrev pub Row-is-played : Type 0
+Row-is-played =
+    (a d : ℕ) (ws bs : List ℕ) (es : List Event) → field-ok a d ws bs ≡ true → events-ok (length bs) es ≡ true
+    → (m : List ℕ) × Played a d ws bs es m
+
 -- a call with this memory and this event is answered: it happened
 abbrev pub Is-done : (across down : ℕ) → (walls bays memory : List ℕ) → (kind shuttle : ℕ) → (route : List ℕ) → Type 0
 Is-done a d ws bs m kind i r = (refusal a d ws bs m kind i r ≡ 0) × (does (field-in a d ws bs) (shuttle-in m) (event-in kind i r) ≡ true)
@@ -82,6 +104,9 @@ pub record Promised (a d : ℕ) (ws bs m : List ℕ) : Type 0 where
       → ((j : ℕ) × (j < length bs) × (shuttle-in m j .moving ≡ true)) ⊎ ((j : ℕ) × (j < length bs) × Is-done a d ws bs m 1 j [])
   -- some calls of steps and arrivals bring all home
   pub comes-home : (m₁ : List ℕ) × Driven a d ws bs m m₁ × All-home (field-in a d ws bs) (shuttle-in m₁)
+  -- and where no step and no arrival can be made, all are home
+  pub ends-home : ((i : ℕ) → i < length bs → does (field-in a d ws bs) (shuttle-in m) (step i) ≡ false)
+      → ((i : ℕ) → i < length bs → does (field-in a d ws bs) (shuttle-in m) (arrive i) ≡ false) → All-home (field-in a d ws bs) (shuttle-in m)
   -- a shuttle that stands with nothing left is given any route from its bay
   pub takes-routes : (i : ℕ) (r : List ℕ) → i < length bs → shuttle-in m i .moving ≡ false → is-empty (shuttle-in m i .route) ≡ true
       → length r ≤ 256 → route-ok (field-in a d ws bs) i (getD bs i 0) r ≡ true → Is-done a d ws bs m 0 i r
@@ -98,3 +123,10 @@ Step-leaves-less =
     (a d : ℕ) (ws bs m : List ℕ) (i : ℕ) (r : List ℕ) (m₁ : List ℕ) → refusal a d ws bs m 1 i r ≡ 0
     → Says 0 (field-in a d ws bs) m (event-in 1 i r) 0 m₁
     → suc (sum-to squares-left (shuttle-in m₁) (length bs)) ≡ sum-to squares-left (shuttle-in m) (length bs)
+
+-- a call of a step or an arrival that happens leaves exactly one event less; so all come home whichever such calls are made
+abbrev pub Event-leaves-less : Type 0
+Event-leaves-less =
+    (a d : ℕ) (ws bs m : List ℕ) (kind i : ℕ) (r : List ℕ) (m₁ : List ℕ) → 1 ≤ kind → refusal a d ws bs m kind i r ≡ 0
+    → Says 0 (field-in a d ws bs) m (event-in kind i r) 0 m₁
+    → suc (sum-to events-left (shuttle-in m₁) (length bs)) ≡ sum-to events-left (shuttle-in m) (length bs)

@@ -1,6 +1,6 @@
 // The promises over memory and calls. Each function says one of them in its contract, so that the check asks for its
 // proof; it computes nothing.
-ghost use Rattle.calls.specs.Call.{Stored-is-read, Stays-accepted, Follows, Keeps-promises, Step-leaves-less};
+ghost use Rattle.calls.specs.Call.{Stored-is-read, Stays-accepted, Follows, Row-is-played, Keeps-promises, Step-leaves-less, Event-leaves-less};
 
 // Writing one shuttle into memory changes that shuttle and nothing else.
 pub fn stored_is_read_stands() -> u8
@@ -23,6 +23,13 @@ pub fn follows_stands() -> u8
     0
 }
 
+// Each row of accepted events is that of some calls.
+pub fn row_is_played_stands() -> u8
+    ensures { λ _. ⌜ Row-is-played ⌝ }
+{
+    0
+}
+
 // Memory that calls have led to keeps every promise.
 pub fn keeps_promises_stands() -> u8
     ensures { λ _. ⌜ Keeps-promises ⌝ }
@@ -33,6 +40,13 @@ pub fn keeps_promises_stands() -> u8
 // A call that grants a step leaves exactly one square less to go.
 pub fn step_leaves_less_stands() -> u8
     ensures { λ _. ⌜ Step-leaves-less ⌝ }
+{
+    0
+}
+
+// A call of a step or an arrival that happens leaves exactly one event less.
+pub fn event_leaves_less_stands() -> u8
+    ensures { λ _. ⌜ Event-leaves-less ⌝ }
 {
     0
 }

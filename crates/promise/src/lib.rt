@@ -1,6 +1,7 @@
 // The promises over every row of events. Each function says one of them in its contract, so that the check asks for its
 // proof; it computes nothing.
 ghost use Rattle.promise.specs.Promise.{Apart, Never-stuck, Way-home, Less-left, Work-falls, Ends-home, Always-taken};
+ghost use Rattle.promise.specs.Rule.{Rule-is-the-same};
 ghost use Rattle.promise.specs.Promise.{Always-safe, Trying-is-right, Always-placed, Refused-when};
 
 // No two shuttles ever hold a square together.
@@ -76,6 +77,13 @@ pub fn always_placed_stands() -> u8
 // A step is refused for no other reason than the four.
 pub fn refused_when_stands() -> u8
     ensures { λ _. ⌜ Refused-when ⌝ }
+{
+    0
+}
+
+// The hall's rule for a step is the one grant rule for agents that block each other, for every fleet.
+pub fn rule_is_the_same_stands() -> u8
+    ensures { λ _. ⌜ Rule-is-the-same ⌝ }
 {
     0
 }

@@ -13,6 +13,7 @@ use Rattle.rules.specs.Field.{Field}
 use Rattle.rules.specs.Route.{step-ok, route-ok, first-wrong}
 use Rattle.rules.proofs.Tests.{empty-is}
 use Rattle.route.specs.Judged.{verdict, is-right}
+use Rattle.route.specs.declared.verdict.Verdict.{Verdict}
 use Rattle.route.specs.declared.verdict.Verdict.the-variants.{Right, WrongAt, OutsideAfter}
 
 module _ (f : Field) (i : ℕ) where
@@ -56,3 +57,14 @@ module _ (f : Field) (i : ℕ) where
 -- a step is the last exactly if nothing is left after it
 pub last-step : (r : List ℕ) (k : ℕ) → k < length r → eqb (k + 1) (length r) ≡ is-empty (drop (k + 1) r)
 last-step r k l = rw (empty-is (drop (k + 1) r), length-drop (k + 1) r) (grind (arith, tells))
+
+-- what is not right is wrong
+pub right-is : (v : Verdict) → v ≡ Right → is-right v ≡ true
+unfolding is-right
+right-is v e = ap is-right e
+
+pub not-right : (v : Verdict) → (v ≡ Right → ⊥) → is-right v ≡ false
+unfolding is-right
+not-right Right h = absurd (h refl)
+not-right (WrongAt k) h = refl
+not-right (OutsideAfter n) h = refl

@@ -6,7 +6,7 @@ use Prim.Native.Nat.{ℕ, _+_, _-_, _*_, _≤_, _<_}
 use native.Mathlib.Omega.{arith}
 use lib.Dec.{ltb, leb, eqb}
 use lib.ListN.{length, getD, take, drop}
-use Rattle.std.proofs.shelf.Lists.{getD-past}
+use Rattle.std.proofs.shelf.Lists.{getD-past, length-take, length-drop}
 use Rattle.std.proofs.shelf.Tests.{and-parts, and-from, leb-true, ltb-true, lt-ltb, le-leb, eqb-true}
 use Rattle.rules.specs.Tests.{every}
 use Rattle.rules.specs.Shuttle.{Shuttle}
@@ -61,3 +61,14 @@ read-fits squares n m i few ok l =
     let forward : leb (260 * i + 4) (260 * i + 4 + left) ≡ true = le-leb _ _ (omega arith) in
     let within : leb (260 * i + 4 + left) (length m) ≡ true = le-leb _ _ (omega arith) in
     and-from _ _ here (and-from _ _ forward (and-from _ _ within (rw d squares-fit)))
+
+-- as many squares are left as memory says
+pub left-long : (squares n : ℕ) (m : List ℕ) (i : ℕ) → memory-ok squares n m ≡ true → i < n
+    → length (shuttle-in m i .route) ≡ getD m (260 * i + 3) 0
+unfolding shuttle-in shuttle-ok
+left-long squares n m i ok l =
+    let a = accepted-memory squares n m ok in
+    let long = a .long in
+    let p = and-parts (leb (getD m (260 * i + 1) 0) 1) _ (a .each i l) in
+    let most = leb-true (getD m (260 * i + 3) 0) 256 (and-parts (leb (getD m (260 * i + 3) 0) 256) _ (p .1) .0) in
+    rw (length-take (getD m (260 * i + 3) 0) (drop (260 * i + 4) m), length-drop (260 * i + 4) m) (omega arith)

@@ -3,9 +3,10 @@ use mathlib.Core.Bool.{Bool, false, _&&_}
 use mathlib.Core.List.{List}
 use Prim.Native.Nat.{ℕ, _+_, _-_}
 use lib.Dec.{ltb, leb, eqb}
-use lib.ListN.{length, getD, take, drop}
+use lib.ListN.{length, getD, set, take, drop}
 use Rattle.rules.specs.Tests.{every-to, every}
 use Rattle.rules.specs.Shuttle.{Shuttle, Fleet}
+use Rattle.rules.specs.Memory.{mark}
 use Rattle.safety.specs.declared.shuttle.Shuttle.{Shuttle as Kept}
 
 -- the shuttle past the last one
@@ -37,6 +38,10 @@ fits-in m s =
     ltb (s .at) 4096 && (leb (s .from) (s .to) && (leb (s .to) (length m)
     && every (λ c. ltb c 4096) (take (s .to - s .from) (drop (s .from) m))))
 
--- so does each of the first n, of which there are at most 16
+-- sixteen shuttles, of which each of the first n, at most 16, fits
 unfoldable pub all-fit : List Kept → ℕ → List ℕ → Bool
-all-fit ss n m = leb n 16 && every-to (λ i. fits-in m (getD ss i nobody)) n
+all-fit ss n m = eqb (length ss) 16 && (leb n 16 && every-to (λ i. fits-in m (getD ss i nobody)) n)
+
+-- memory with the four numbers of a shuttle, from this place on, that stand before what is left of its route
+abbrev pub headed : List ℕ → (place at : ℕ) → (moving : Bool) → (behind left : ℕ) → List ℕ
+headed m place at moving behind left = set (set (set (set m place at) (place + 1) (mark moving)) (place + 2) behind) (place + 3) left

@@ -6,7 +6,7 @@ use native.Mathlib.Omega.{arith}
 use Prim.Native.Nat.{_<_}
 use lib.ListN.{length}
 use Rattle.std.proofs.shelf.Lists.{getD-set-same, getD-set-other, length-set}
-use Rattle.std.proofs.shelf.Tests.{and-from, le-leb, cases-lt}
+use Rattle.std.proofs.shelf.Tests.{and-from, eq-eqb, le-leb, cases-lt}
 use Rattle.rules.proofs.Tests.{every-to-from}
 use Rattle.field.proofs.Facts.{facts}
 use Rattle.safety.specs.Shuttles.{nobody, shuttle-of, all-fit}
@@ -38,8 +38,8 @@ unfolding all-fit
 ghost-result c =
     let k = facts (c .args .field .now) in
     let most = k .squares-most in (
-      and-from _ _ (le-leb _ _ (k .few))
-          (every-to-from _ _ (λ i l. let here = c .loop-i .inv .1 i (omega arith) in rw here (read-fits _ _ _ i most (c .pre) l))),
+      and-from _ _ (eq-eqb _ _ (c .loop-i .inv .0)) (and-from _ _ (le-leb _ _ (k .few))
+          (every-to-from _ _ (λ i l. let here = c .loop-i .inv .1 i (omega arith) in rw here (read-fits _ _ _ i most (c .pre) l)))),
       tt,
     )
 

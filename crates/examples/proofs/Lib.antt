@@ -1,0 +1,4 @@
+-- Proofs of the worked examples.
+pub mod Open
+pub mod Reached
+pub mod Unsafe

@@ -1,0 +1,2 @@
+-- Lemmas on steps.
+pub mod Moving

@@ -1,0 +1,2 @@
+-- Lemmas on orders.
+pub mod Taken

@@ -1,0 +1,2 @@
+-- What an order makes of memory.
+pub mod Order
