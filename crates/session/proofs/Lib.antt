@@ -1,2 +1,3 @@
 -- Lemmas behind the contracts.
 mod Asking
+mod Signs

@@ -1,2 +1,3 @@
 -- What is asked for on a line of commands, and the picture of the hall.
 pub mod Commands
+pub mod Picture
