@@ -1,6 +1,7 @@
 // A hall that is played: commands, the hall that they change, and its picture.
 mod commands;
 mod picture;
+mod playing;
 mod state;
 
 pub use commands::Command;

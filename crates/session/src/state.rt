@@ -4,10 +4,10 @@ ghost use Rattle.calls.specs.Call.{Reached};
 
 #[derive(Drop)]
 pub struct Session {
-    across: u64,
-    down: u64,
-    walls: Vec<u8>,
-    bays: Vec<u16>,
-    memory: Vec<u16>,
+    pub(crate) across: u64,
+    pub(crate) down: u64,
+    pub(crate) walls: Vec<u8>,
+    pub(crate) bays: Vec<u16>,
+    pub(crate) memory: Vec<u16>,
     ghost reached: { ∥ Reached across down (vec-items walls) (vec-items bays) (vec-items memory) ∥₁ },
 }
