@@ -5,10 +5,10 @@ ghost use denote.Ref.{now};
 ghost use Rattle.rules.specs.Memory.{field-ok};
 
 #[derive(Clone, Copy)]
-pub struct Field<'a> {
+pub struct Field<'a, 'b> {
     pub across: u64,
     pub down: u64,
     pub walls: &'a [u8],
-    pub bays: &'a [u16],
+    pub bays: &'b [u16],
     ghost accepted: { field-ok across down (now walls) (now bays) ≡ true },
 }

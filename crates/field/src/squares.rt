@@ -22,7 +22,7 @@ pub fn is_field(across: u64, down: u64, walls: &[u8], bays: &[u16]) -> bool
     are_marks(walls) && are_bays(across, down, walls, bays)
 }
 
-impl Field<'_> {
+impl Field<'_, '_> {
     // The row of a square, from 0.
     pub fn row(&self, square: u16) -> u64
         ensures { λ r. ⌜ r ≡ square / now (self .entry) .across ⌝ }

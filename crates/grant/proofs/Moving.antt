@@ -85,3 +85,6 @@ grants-of f i l h e stands some =
     fleet-put (f .shuttles) m i (moved m s) (omega arith) ∙ ap (put g i) (moved-is m s k some) in
     grants-is h g i (getD m (s .from) 0) (omega arith) stands (some-left m s k some) (next-is m s k some)
     ∙ (rw (e, put-is))
+
+pub and-true : (x y : Bool) → x ≡ true → (x && y) ≡ y
+and-true x y h = grind (arith, tells)

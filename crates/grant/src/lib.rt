@@ -1,5 +1,5 @@
-// Steps that are granted: who holds a square, and the shuttle after its step.
+// Steps that are granted: who holds a square, and whether a step is granted.
 mod held;
 mod steps;
 
-pub use steps::step;
+pub use steps::is_granted;

@@ -62,13 +62,18 @@ read-fits squares n m i few ok l =
     let within : leb (260 * i + 4 + left) (length m) ≡ true = le-leb _ _ (omega arith) in
     and-from _ _ here (and-from _ _ forward (and-from _ _ within (rw d squares-fit)))
 
+-- at most 256 squares are left, and a mark is 0 or 1
+pub left-most : (squares n : ℕ) (m : List ℕ) (i : ℕ) → memory-ok squares n m ≡ true → i < n → getD m (260 * i + 3) 0 ≤ 256
+unfolding shuttle-ok
+left-most squares n m i ok l =
+    let p = and-parts (leb (getD m (260 * i + 1) 0) 1) _ (accepted-memory squares n m ok .each i l) in
+    leb-true (getD m (260 * i + 3) 0) 256 (and-parts (leb (getD m (260 * i + 3) 0) 256) _ (p .1) .0)
+
 -- as many squares are left as memory says
 pub left-long : (squares n : ℕ) (m : List ℕ) (i : ℕ) → memory-ok squares n m ≡ true → i < n
     → length (shuttle-in m i .route) ≡ getD m (260 * i + 3) 0
-unfolding shuttle-in shuttle-ok
+unfolding shuttle-in
 left-long squares n m i ok l =
-    let a = accepted-memory squares n m ok in
-    let long = a .long in
-    let p = and-parts (leb (getD m (260 * i + 1) 0) 1) _ (a .each i l) in
-    let most = leb-true (getD m (260 * i + 3) 0) 256 (and-parts (leb (getD m (260 * i + 3) 0) 256) _ (p .1) .0) in
+    let long = accepted-memory squares n m ok .long in
+    let most = left-most squares n m i ok l in
     rw (length-take (getD m (260 * i + 3) 0) (drop (260 * i + 4) m), length-drop (260 * i + 4) m) (omega arith)

@@ -9,7 +9,7 @@ use field::Field;
 
 // Whether each of these squares is one of so many. The largest one decides, so that the loop has no way out and runs
 // over many squares at once.
-fn are_squares(part: &[u16], squares: usize) -> bool
+pub fn are_squares(part: &[u16], squares: usize) -> bool
     requires { ⌜ 1 ≤ squares ⌝ }
     ensures { λ r. ⌜ r ≡ every (λ c. ltb c squares) (now (part .entry)) ⌝ }
 {

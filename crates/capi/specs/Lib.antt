@@ -1,0 +1,1 @@
+-- Nothing of its own: the answer is the entry's, as a number.

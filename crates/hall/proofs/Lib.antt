@@ -1,0 +1,5 @@
+-- Lemmas on memory after steps, arrivals and the start, and on the entry.
+pub mod Shifting
+pub mod Written
+pub mod Called
+pub mod Started

@@ -1,0 +1,11 @@
+// What happens in the hall, one event after the other, over memory that is lent.
+mod done;
+mod entry;
+mod event;
+mod moving;
+mod starting;
+
+pub use done::Done;
+pub use entry::happen;
+pub use event::Event;
+pub use starting::start;

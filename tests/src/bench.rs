@@ -1,0 +1,35 @@
+//! The Rust variants that the library's speed is measured beside: they must do the same, or their times say nothing.
+
+use crate::compare::{self, Extent};
+use crate::entry::{Entry, EventNumbers, FieldNumbers};
+use crate::report::Group;
+use crate::wrong::copy::RulesCopy;
+use crate::{plain, tuned};
+
+type Happen = fn(u64, u64, &[u8], &[u16], &mut [u16], u64, u64, &[u16]) -> u64;
+
+struct Variant {
+    name: &'static str,
+    happen: Happen,
+}
+
+impl Entry for Variant {
+    fn happen(&mut self, field: FieldNumbers, memory: &mut [u16], event: EventNumbers) -> u64 {
+        let FieldNumbers { across, down, walls, bays } = field;
+        (self.happen)(across, down, walls, bays, memory, event.kind, event.shuttle, event.route)
+    }
+
+    /// The start is not measured, so that the variants have none of their own.
+    fn start(&mut self, field: FieldNumbers, memory: &mut [u16]) -> u64 {
+        RulesCopy { fault: None }.start(field, memory)
+    }
+}
+
+pub fn all(extent: Extent) -> Vec<Group> {
+    let variants = [Variant { name: "plain", happen: plain::happen }, Variant { name: "tuned", happen: tuned::happen }];
+    let groups = |mut variant: Variant| {
+        let named = move |group: Group| Group { name: format!("{}, {}", variant.name, group.name), ..group };
+        compare::all(&mut variant, extent).into_iter().map(named)
+    };
+    variants.into_iter().flat_map(groups).collect()
+}
