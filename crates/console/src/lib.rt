@@ -5,3 +5,4 @@ mod words;
 pub use input::Input;
 pub use input::read_input;
 pub use words::tell;
+pub use words::turn_away;

@@ -2,6 +2,7 @@
 use console::Input;
 use console::read_input;
 use console::tell;
+use console::turn_away;
 use field::Field;
 use field::is_field;
 use std::alloc::Global;
@@ -9,7 +10,6 @@ use std::error::AnyError;
 use text::Judgement;
 use text::JudgementDisplay;
 use text::Refusal;
-use text::RefusalDisplay;
 use text::Unread;
 use text::judge_line;
 use text::lines_of;
@@ -25,12 +25,6 @@ that of c wherever it stands. For each line judge prints 'route ok', or the firs
 wrong step, from 0, or, if none is wrong but it ends outside the bay, how many it
 has. What is turned away prints 'refused' and a number, with words on standard error.
 ";
-
-// Prints why something was turned away, and says it in words.
-fn turn_away(rt: &LibcRuntime, refusal: Refusal) -> Result<(), AnyError> {
-    println!(rt, "{refusal}")?;
-    Ok(tell(rt, refusal)?)
-}
 
 // Judges each line after the empty one that ends the field.
 fn judge_routes(
@@ -56,13 +50,13 @@ fn judge_text(rt: &LibcRuntime, heap: Global, lines: &[&[u8]]) -> Result<(), Any
     let rows = rows_in(lines);
     let shown = match read_field(heap, &lines[0..rows]) {
         Ok(shown) => shown,
-        Err(Unread::Line(k)) => return turn_away(rt, Refusal::Line(k)),
+        Err(Unread::Line(k)) => return Ok(turn_away(rt, Refusal::Line(k))?),
         Err(Unread::Memory) => return Err("out of memory".into()),
     };
     let walls = shown.walls.as_slice();
     let bays = shown.bays.as_slice();
     if !is_field(shown.across, shown.down, walls, bays) {
-        return turn_away(rt, Refusal::Field);
+        return Ok(turn_away(rt, Refusal::Field)?);
     }
     let field = Field {
         across: shown.across,

@@ -57,6 +57,6 @@ row-end s n w before old next so all more =
 pub row-more : (p : ℕ → List ℕ) (n : ℕ) (old next : List ℕ) → old ≡ joined p (counting 0 n) → next ≡ old ++ p n → next ≡ joined p (counting 0 (n + 1))
 row-more p n old next so more =
     let one : counting 0 (n + 1) ≡ counting 0 n ++ n ∷ [] =
-      sym (map-id (counting 0 (n + 1))) ∙ map-counting-more (λ (x : ℕ). x) 0 n n (omega arith) ∙ ap (λ l. l ++ n ∷ []) (map-id (counting 0 n))
+    sym (map-id (counting 0 (n + 1))) ∙ map-counting-more (λ (x : ℕ). x) 0 n n (omega arith) ∙ ap (λ l. l ++ n ∷ []) (map-id (counting 0 n))
     in
     more ∙ ap (λ l. l ++ p n) so ∙ joined-more p [] (counting 0 n) n ∙ ap (joined p) (sym one)

@@ -80,11 +80,11 @@ pub start-home : (a d : ℕ) (ws bs m n : List ℕ) → Start-says a d ws bs m 0
 unfolding Start-left start-refusal
 start-home a d ws bs m n says = go (field-ok a d ws bs) (eqb (length m) (260 * length bs)) refl refl says
   where
-  go : (t u : Bool) → field-ok a d ws bs ≡ t → eqb (length m) (260 * length bs) ≡ u → Start-left (cond t (cond u 0 2) 1) a d ws bs m 0 n
-      → (i : ℕ) → shuttle-in n i ≡ at-home (field-in a d ws bs) i
-  go true true ok long left i = ap (λ l. shuttle-in l i) (left .1) ∙ started-holds a d ws bs m ok (eqb-true _ _ long) .1 i
-  go true false ok long left i = absurd (omega (arith, left .0))
-  go false u ok long left i = absurd (omega (arith, left .0))
+    go : (t u : Bool) → field-ok a d ws bs ≡ t → eqb (length m) (260 * length bs) ≡ u → Start-left (cond t (cond u 0 2) 1) a d ws bs m 0 n
+        → (i : ℕ) → shuttle-in n i ≡ at-home (field-in a d ws bs) i
+    go true true ok long left i = ap (λ l. shuttle-in l i) (left .1) ∙ started-holds a d ws bs m ok (eqb-true _ _ long) .1 i
+    go true false ok long left i = absurd (omega (arith, left .0))
+    go false u ok long left i = absurd (omega (arith, left .0))
 
 -- one that did not, with memory as long as it should be for a field, was given no field
 pub start-none : (a d : ℕ) (ws bs m n : List ℕ) (r : Done) → Start-says a d ws bs m (number r) n → (r ≡ Happened → ⊥)
@@ -92,8 +92,8 @@ pub start-none : (a d : ℕ) (ws bs m n : List ℕ) (r : Done) → Start-says a 
 unfolding Start-left start-refusal
 start-none a d ws bs m n r says other long = go (field-ok a d ws bs) (eqb (length m) (260 * length bs)) refl refl says
   where
-  go : (t u : Bool) → field-ok a d ws bs ≡ t → eqb (length m) (260 * length bs) ≡ u → Start-left (cond t (cond u 0 2) 1) a d ws bs m (number r) n
-      → field-ok a d ws bs ≡ false
-  go true true ok is left = absurd (other (number-zero r (left .0)))
-  go true false ok is left = absurd (eqb-false _ _ is (long ok))
-  go false u ok is left = ok
+    go : (t u : Bool) → field-ok a d ws bs ≡ t → eqb (length m) (260 * length bs) ≡ u → Start-left (cond t (cond u 0 2) 1) a d ws bs m (number r) n
+        → field-ok a d ws bs ≡ false
+    go true true ok is left = absurd (other (number-zero r (left .0)))
+    go true false ok is left = absurd (eqb-false _ _ is (long ok))
+    go false u ok is left = ok

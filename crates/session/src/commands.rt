@@ -89,7 +89,13 @@ fn read_order(heap: Global, shuttle: u64, letters: &[u8]) -> Result<Said, AllocE
 }
 
 // A command of so many words, with the shuttle and the letters of its route.
-fn command_of(heap: Global, verb: Verb, count: usize, shuttle: Option<u64>, letters: &[u8]) -> Result<Said, AllocError>
+fn command_of(
+    heap: Global,
+    verb: Verb,
+    count: usize,
+    shuttle: Option<u64>,
+    letters: &[u8],
+) -> Result<Said, AllocError>
     ensures { λ r. ⌜ made r (λ s. meaning s ≡ asked-by verb count shuttle (now (letters .entry))) ⌝ }
 {
     match (verb, shuttle) {
@@ -109,7 +115,13 @@ fn command_in(heap: Global, all: &[&[u8]]) -> Result<Said, AllocError>
         return Ok(Said::Nothing);
     }
     match read_verb(word_at(all, 0)) {
-        Some(verb) => command_of(heap, verb, all.len(), read_shuttle(word_at(all, 1)), word_at(all, 2)),
+        Some(verb) => command_of(
+            heap,
+            verb,
+            all.len(),
+            read_shuttle(word_at(all, 1)),
+            word_at(all, 2),
+        ),
         None => Ok(Said::Unreadable),
     }
 }

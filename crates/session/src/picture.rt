@@ -27,7 +27,11 @@ fn field_sign(field: &Field, square: u16) -> u8
     requires { ⌜ square < length (now (now field .walls)) ⌝ }
     ensures { λ r. ⌜ r ≡ bay-sign (field-of (now (field .entry))) (length (now (now (field .entry) .bays))) square (ground (field-of (now (field .entry))) square) ⌝ }
 {
-    let mut sign = if field.walls[square as usize] == 1 { b'#' } else { b'.' };
+    let mut sign = if field.walls[square as usize] == 1 {
+        b'#'
+    } else {
+        b'.'
+    };
     for i in 0..field.bays.len() {
         if field.bays[i] == square {
             sign = b'a' + i as u8;

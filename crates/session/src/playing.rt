@@ -25,10 +25,27 @@ impl Session {
     pub fn open(heap: Global, shown: FieldText) -> Result<Option<Session>, AllocError>
         ensures { λ r. ⌜ made r (Opened shown) ⌝ }
     {
-        let FieldText { across, down, walls, bays } = shown;
+        let FieldText {
+            across,
+            down,
+            walls,
+            bays,
+        } = shown;
         let mut memory = vec![in heap; 0u16; 260 * bays.len().min(16)]?;
-        match start(across, down, walls.as_slice(), bays.as_slice(), memory.as_mut_slice()) {
-            Done::Happened => Ok(Some(Session { across, down, walls, bays, memory })),
+        match start(
+            across,
+            down,
+            walls.as_slice(),
+            bays.as_slice(),
+            memory.as_mut_slice(),
+        ) {
+            Done::Happened => Ok(Some(Session {
+                across,
+                down,
+                walls,
+                bays,
+                memory,
+            })),
             _ => Ok(None),
         }
     }
@@ -40,7 +57,16 @@ impl Session {
         let walls = self.walls.as_slice();
         let bays = self.bays.as_slice();
         let memory = self.memory.as_mut_slice();
-        match happen(self.across, self.down, walls, bays, memory, kind, shuttle, route) {
+        match happen(
+            self.across,
+            self.down,
+            walls,
+            bays,
+            memory,
+            kind,
+            shuttle,
+            route,
+        ) {
             Done::Happened => Answer::Granted,
             Done::Not => Answer::Not,
             Done::Refused(_) => Answer::Refused(Refusal::Event),
@@ -52,7 +78,11 @@ impl Session {
     {
         let memory = self.memory.as_slice();
         let count = (memory.len() / 260) as u64;
-        if shuttle < count { memory[260 * shuttle as usize] } else { 0 }
+        if shuttle < count {
+            memory[260 * shuttle as usize]
+        } else {
+            0
+        }
     }
 
     // A shuttle is given the route that the ways lead over from where it is.
@@ -84,7 +114,12 @@ impl Session {
     {
         let walls = self.walls.as_slice();
         let bays = self.bays.as_slice();
-        let field = Field { across: self.across, down: self.down, walls, bays };
+        let field = Field {
+            across: self.across,
+            down: self.down,
+            walls,
+            bays,
+        };
         squares_on(heap, &field, from, ways)
     }
 
@@ -95,7 +130,12 @@ impl Session {
     {
         let walls = self.walls.as_slice();
         let bays = self.bays.as_slice();
-        let field = Field { across: self.across, down: self.down, walls, bays };
+        let field = Field {
+            across: self.across,
+            down: self.down,
+            walls,
+            bays,
+        };
         draw(heap, &field, self.memory.as_slice())
     }
 }

@@ -21,10 +21,10 @@ returns-in-Some c =
     (λ s. meaning s ≡ asked-by (c .in-Some .verb) (length (c .args .all .now)) (c .read-shuttle .result) (c .word-at-in-Some-2 .result .now))
     (λ s. meaning s ≡ asked ws)
     (λ s is.
-        is ∙ asked-known ws (c .in-Some .verb) (length (c .args .all .now)) (c .read-shuttle .result) (c .word-at-in-Some-2 .result .now)
-        (c .if-is-empty .ensures tt ∙ ap (λ n. eqb n 0) (sym long))
-        (ap verb-of (sym (c .word-at .ensures)) ∙ sym (c .read-verb .ensures) ∙ c .in-Some .is) (sym long)
-        (c .read-shuttle .ensures ∙ ap shuttle-of (c .word-at-in-Some .ensures)) (c .word-at-in-Some-2 .ensures))
+    is ∙ asked-known ws (c .in-Some .verb) (length (c .args .all .now)) (c .read-shuttle .result) (c .word-at-in-Some-2 .result .now)
+    (c .if-is-empty .ensures tt ∙ ap (λ n. eqb n 0) (sym long))
+    (ap verb-of (sym (c .word-at .ensures)) ∙ sym (c .read-verb .ensures) ∙ c .in-Some .is) (sym long)
+    (c .read-shuttle .ensures ∙ ap shuttle-of (c .word-at-in-Some .ensures)) (c .word-at-in-Some-2 .ensures))
     (c .command-of .ensures)
 
 pub returns-in-None : need.returns-in-None

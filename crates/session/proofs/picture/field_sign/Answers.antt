@@ -21,10 +21,10 @@ unfolding field-in
 loop-i-holds c =
     let f = field-of (c .args .field .now) in
     let sign : c .if-field-square-eq1 .sign ≡ ground f (c .args .square) =
-      elim (c .if-field-square-eq1 .came) [
-        then-field-square-eq1 w ↦ w .sign-is ∙ sym (cond-true _ _ _ (eq-eqb _ 1 (w .if-field-square-eq1 .taken)))
+    elim (c .if-field-square-eq1 .came) [
+      | then-field-square-eq1 w ↦ w .sign-is ∙ sym (cond-true _ _ _ (eq-eqb _ 1 (w .if-field-square-eq1 .taken)))
       | else-field-square-eq1 w ↦ w .sign-is ∙ sym (cond-false _ _ _ (ne-eqb _ 1 (w .if-field-square-eq1 .left)))
-      ]
+    ]
     in
     sign ∙ bay-none f (c .args .square) (ground f (c .args .square))
 
@@ -33,7 +33,7 @@ unfolding field-in
 loop-i-again c =
     let f = field-of (c .args .field .now) in
     elim (c .if-field-i .came) [
-      then-field-i w ↦ w .sign-is ∙ bay-here f (c .loop-i .i) (c .args .square) (ground f (c .args .square)) (eq-eqb _ _ (w .if-field-i .taken))
-    | else-field-i w ↦
-        w .sign-is ∙ bay-other f (c .loop-i .i) (c .args .square) (ground f (c .args .square)) (c .loop-i .sign) (ne-eqb _ _ (w .if-field-i .left)) (c .loop-i .inv)
+      | then-field-i w ↦ w .sign-is ∙ bay-here f (c .loop-i .i) (c .args .square) (ground f (c .args .square)) (eq-eqb _ _ (w .if-field-i .taken))
+      | else-field-i w ↦
+          w .sign-is ∙ bay-other f (c .loop-i .i) (c .args .square) (ground f (c .args .square)) (c .loop-i .sign) (ne-eqb _ _ (w .if-field-i .left)) (c .loop-i .inv)
     ]

@@ -24,10 +24,10 @@ loop-i-again c =
     let f = field-of (c .args .field .now) in
     let other = bay-sign f (length (c .args .field .now .bays .now)) (c .args .square) (ground f (c .args .square)) in
     elim (c .if-holds-square .came) [
-      then-holds-square w ↦ w .sign-is ∙ shuttle-here (shuttle-in (c .args .memory .now)) (c .loop-i .i) (c .args .square) other (w .if-holds-square .ensures tt)
-    | else-holds-square w ↦
-        w .sign-is
-        ∙ shuttle-other (shuttle-in (c .args .memory .now)) (c .loop-i .i) (c .args .square) other (c .loop-i .sign) (w .if-holds-square .ensures tt) (c .loop-i .inv)
+      | then-holds-square w ↦ w .sign-is ∙ shuttle-here (shuttle-in (c .args .memory .now)) (c .loop-i .i) (c .args .square) other (w .if-holds-square .ensures tt)
+      | else-holds-square w ↦
+          w .sign-is
+          ∙ shuttle-other (shuttle-in (c .args .memory .now)) (c .loop-i .i) (c .args .square) other (c .loop-i .sign) (w .if-holds-square .ensures tt) (c .loop-i .inv)
     ]
 
 pub returns : need.returns

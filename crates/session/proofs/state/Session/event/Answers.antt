@@ -18,8 +18,8 @@ pub ghost-self : need.ghost-self
 ghost-self c =
     let s = c .args .self .now in (
       led-on (s .across) (s .down) (vec-items (s .walls)) (c .as-slice-walls .result .now) (vec-items (s .bays)) (c .as-slice-bays .result .now) (vec-items (s .memory))
-      (c .as-mut-slice-memory .result .now) (vec-items (refilled (s .memory) (c .happen .last .memory))) (c .happen .last .memory) (c .as-slice-walls .ensures .value)
-      (c .as-slice-bays .ensures .value) (c .as-mut-slice-memory .ensures .value) (filled (need.at·ghost-self c .After-happen)) (c .happen .ensures .stays) (s .reached),
+          (c .as-mut-slice-memory .result .now) (vec-items (refilled (s .memory) (c .happen .last .memory))) (c .happen .last .memory) (c .as-slice-walls .ensures .value)
+          (c .as-slice-bays .ensures .value) (c .as-mut-slice-memory .ensures .value) (filled (need.at·ghost-self c .After-happen)) (c .happen .ensures .stays) (s .reached),
       tt,
     )
 
@@ -28,10 +28,10 @@ unfolding number
 returns-in-Happened c =
     let s = c .args .self .now in
     let says =
-        says-on (s .across) (s .down) (vec-items (s .walls)) (c .as-slice-walls .result .now) (vec-items (s .bays)) (c .as-slice-bays .result .now) (vec-items (s .memory))
-        (c .as-mut-slice-memory .result .now) (vec-items (refilled (s .memory) (c .happen .last .memory))) (c .happen .last .memory) (c .args .kind) (c .args .shuttle) 0 (c .args .route .now)
-        (c .as-slice-walls .ensures .value) (c .as-slice-bays .ensures .value) (c .as-mut-slice-memory .ensures .value) (filled (need.at·returns-in-Happened c .After-happen)) (s .reached)
-        (c .in-Happened .ensures tt .says)
+    says-on (s .across) (s .down) (vec-items (s .walls)) (c .as-slice-walls .result .now) (vec-items (s .bays)) (c .as-slice-bays .result .now) (vec-items (s .memory))
+    (c .as-mut-slice-memory .result .now) (vec-items (refilled (s .memory) (c .happen .last .memory))) (c .happen .last .memory) (c .args .kind) (c .args .shuttle) 0 (c .args .route .now)
+    (c .as-slice-walls .ensures .value) (c .as-slice-bays .ensures .value) (c .as-mut-slice-memory .ensures .value) (filled (need.at·returns-in-Happened c .After-happen)) (s .reached)
+    (c .in-Happened .ensures tt .says)
     in
     record { came = record { across = refl; down = refl; walls = refl; bays = refl; says = says } }
 
@@ -40,10 +40,10 @@ unfolding number
 returns-in-Not c =
     let s = c .args .self .now in
     let says =
-        says-on (s .across) (s .down) (vec-items (s .walls)) (c .as-slice-walls .result .now) (vec-items (s .bays)) (c .as-slice-bays .result .now) (vec-items (s .memory))
-        (c .as-mut-slice-memory .result .now) (vec-items (refilled (s .memory) (c .happen .last .memory))) (c .happen .last .memory) (c .args .kind) (c .args .shuttle) 1 (c .args .route .now)
-        (c .as-slice-walls .ensures .value) (c .as-slice-bays .ensures .value) (c .as-mut-slice-memory .ensures .value) (filled (need.at·returns-in-Not c .After-happen)) (s .reached)
-        (c .in-Not .ensures tt .says)
+    says-on (s .across) (s .down) (vec-items (s .walls)) (c .as-slice-walls .result .now) (vec-items (s .bays)) (c .as-slice-bays .result .now) (vec-items (s .memory))
+    (c .as-mut-slice-memory .result .now) (vec-items (refilled (s .memory) (c .happen .last .memory))) (c .happen .last .memory) (c .args .kind) (c .args .shuttle) 1 (c .args .route .now)
+    (c .as-slice-walls .ensures .value) (c .as-slice-bays .ensures .value) (c .as-mut-slice-memory .ensures .value) (filled (need.at·returns-in-Not c .After-happen)) (s .reached)
+    (c .in-Not .ensures tt .says)
     in
     record { came = record { across = refl; down = refl; walls = refl; bays = refl; says = says } }
 
@@ -52,9 +52,9 @@ unfolding number
 returns-in-Refused c =
     let s = c .args .self .now in
     let says =
-        says-on (s .across) (s .down) (vec-items (s .walls)) (c .as-slice-walls .result .now) (vec-items (s .bays)) (c .as-slice-bays .result .now) (vec-items (s .memory))
-        (c .as-mut-slice-memory .result .now) (vec-items (refilled (s .memory) (c .happen .last .memory))) (c .happen .last .memory) (c .args .kind) (c .args .shuttle) _ (c .args .route .now)
-        (c .as-slice-walls .ensures .value) (c .as-slice-bays .ensures .value) (c .as-mut-slice-memory .ensures .value) (filled (need.at·returns-in-Refused c .After-happen)) (s .reached)
-        (c .in-Refused .ensures tt .says)
+    says-on (s .across) (s .down) (vec-items (s .walls)) (c .as-slice-walls .result .now) (vec-items (s .bays)) (c .as-slice-bays .result .now) (vec-items (s .memory))
+    (c .as-mut-slice-memory .result .now) (vec-items (refilled (s .memory) (c .happen .last .memory))) (c .happen .last .memory) (c .args .kind) (c .args .shuttle) _ (c .args .route .now)
+    (c .as-slice-walls .ensures .value) (c .as-slice-bays .ensures .value) (c .as-mut-slice-memory .ensures .value) (filled (need.at·returns-in-Refused c .After-happen)) (s .reached)
+    (c .in-Refused .ensures tt .says)
     in
     record { came = record { across = refl; down = refl; walls = refl; bays = refl; says = by-three _ (field-of s) (vec-items (s .memory)) _ _ _ says } }

@@ -23,8 +23,8 @@ unfolding number
 ghost-result c =
     let t = c .args .shown in (
       led-begun (t .across) (t .down) (vec-items (t .walls)) (c .as-slice .result .now) (vec-items (t .bays)) (c .as-slice-2 .result .now)
-      (vec-items (refilled (c .in-Continue-memory .memory) (c .start .last .memory))) (c .start .last .memory) (c .as-slice .ensures .value) (c .as-slice-2 .ensures .value)
-      (filled (need.at·ghost-result c .After-start)) (c .in-Happened .ensures tt .begins refl),
+          (vec-items (refilled (c .in-Continue-memory .memory) (c .start .last .memory))) (c .start .last .memory) (c .as-slice .ensures .value) (c .as-slice-2 .ensures .value)
+          (filled (need.at·ghost-result c .After-start)) (c .in-Happened .ensures tt .begins refl),
       tt,
     )
 
@@ -48,11 +48,18 @@ pub returns-in-rest : need.returns-in-rest
 returns-in-rest c =
     let t = c .args .shown in
     let no-field =
-      start-none (t .across) (t .down) (c .as-slice .result .now) (c .as-slice-2 .result .now) _ (c .start .last .memory) (c .start .result) (c .start .ensures .says)
-      (c .in-rest .not-Happened)
-      (λ ok.
-          omega (arith, accepted (t .across) (t .down) (c .as-slice .result .now) (c .as-slice-2 .result .now) ok .few, c .as-slice-2 .ensures .len, c .len .ensures, c .min .ensures,
-          c .in-Continue-memory .ensures tt .made .1, c .as-mut-slice .ensures .len))
+    start-none (t .across) (t .down) (c .as-slice .result .now) (c .as-slice-2 .result .now) _ (c .start .last .memory) (c .start .result) (c .start .ensures .says)
+    (c .in-rest .not-Happened)
+    (λ ok.
+    omega (
+      arith,
+      accepted (t .across) (t .down) (c .as-slice .result .now) (c .as-slice-2 .result .now) ok .few,
+      c .as-slice-2 .ensures .len,
+      c .len .ensures,
+      c .min .ensures,
+      c .in-Continue-memory .ensures tt .made .1,
+      c .as-mut-slice .ensures .len,
+    ))
     in
     sym (ap (λ l. field-ok (t .across) (t .down) l (c .as-slice-2 .result .now)) (c .as-slice .ensures .value)
     ∙ ap (field-ok (t .across) (t .down) (vec-items (t .walls))) (c .as-slice-2 .ensures .value))

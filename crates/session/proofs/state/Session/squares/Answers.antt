@@ -9,7 +9,7 @@ pub ghost-field : need.ghost-field
 ghost-field c =
     let s = c .args .self .now in (
       ap (λ l. field-ok (s .across) (s .down) l (c .as-slice-bays .result .now)) (c .as-slice-walls .ensures .value)
-      ∙ ap (field-ok (s .across) (s .down) (vec-items (s .walls))) (c .as-slice-bays .ensures .value)
-      ∙ led-field (s .across) (s .down) (vec-items (s .walls)) (vec-items (s .bays)) (vec-items (s .memory)) (s .reached),
+          ∙ ap (field-ok (s .across) (s .down) (vec-items (s .walls))) (c .as-slice-bays .ensures .value)
+          ∙ led-field (s .across) (s .down) (vec-items (s .walls)) (vec-items (s .bays)) (vec-items (s .memory)) (s .reached),
       tt,
     )
