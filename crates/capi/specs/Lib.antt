@@ -1,0 +1,2 @@
+-- The answers of the other functions, as numbers.
+pub mod Numbers
