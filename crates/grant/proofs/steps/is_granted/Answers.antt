@@ -47,13 +47,13 @@ offset-after-i c = let few = count-most (c .args .fleet .now) in let l = c .pre 
 pub index-after-i : need.index-after-i
 index-after-i c = let few = count-most (c .args .fleet .now) in let l = c .pre in omega arith
 
+pub returns : need.returns
+returns c = λ f e.
+    sym (grants-of (c .args .fleet .now) (c .args .i) (c .pre) f e (c .if-shuttle .left) (c .if-from-to .left)
+    ∙ and-true _ _ (not-from-false _ (sym (c .is-held-by-other .ensures) ∙ c .if-is-held-by-other .left)) ∙ sym (c .is-safe .ensures))
+
 pub ghost-after : need.ghost-after
 ghost-after c =
     let f = c .args .fleet .now in
     let i = c .args .i in
     (fits-put f i _ (c .pre) (moved-fits (f .memory .now) (getD (f .shuttles) i nobody) (fitting f i (c .pre)) (c .if-from-to .left)), tt)
-
-pub returns : need.returns
-returns c = λ f e.
-    sym (grants-of (c .args .fleet .now) (c .args .i) (c .pre) f e (c .if-shuttle .left) (c .if-from-to .left)
-    ∙ and-true _ _ (not-from-false _ (sym (c .is-held-by-other .ensures) ∙ c .if-is-held-by-other .left)) ∙ sym (c .is-safe .ensures))
