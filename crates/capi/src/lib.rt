@@ -7,8 +7,10 @@ ghost use Rattle.promise.specs.Promise.{sum-to, squares-left, events-left};
 ghost use Rattle.calls.specs.Call.{Says, Reached, Promised};
 ghost use Rattle.hall.specs.Answer.{number};
 ghost use Rattle.hall.specs.Start.{Start-says};
+mod ticks;
 mod ways;
 
+pub use ticks::tick;
 pub use ways::way;
 use hall::Done;
 
