@@ -1,1 +1,2 @@
--- Nothing of its own: the answer is the entry's, as a number.
+-- The answers of the other functions, as numbers.
+pub mod Numbers

@@ -20,7 +20,7 @@ pub fn is_granted(fleet: &Fleet, i: usize) -> bool
     if shuttle.moving || from == to {
         return false;
     }
-    let next = fleet.memory[from];
+    let next = fleet.memory[from as usize];
     if is_held_by_other(fleet, i, next) {
         return false;
     }

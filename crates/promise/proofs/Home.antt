@@ -75,7 +75,7 @@ work-falls f es ds r = falls r
     falls nothing = omega arith
     falls (then e ds o d r) = let h = falls r in let k = event-falls f (after f (ds ++ es)) e o d in omega arith
 
-same-shuttle : (s t : Shuttle) → s .at ≡ t .at → s .moving ≡ t .moving → s .behind ≡ t .behind → s .route ≡ t .route → s ≡ t
+pub same-shuttle : (s t : Shuttle) → s .at ≡ t .at → s .moving ≡ t .moving → s .behind ≡ t .behind → s .route ≡ t .route → s ≡ t
 same-shuttle s t a m b r k = record { at = a k; moving = m k; behind = b k; route = r k }
 
 module _ (f : Field) (ok : sound f ≡ true) (g : Fleet) (p : Good f g) where

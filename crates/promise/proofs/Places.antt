@@ -13,7 +13,7 @@ use Rattle.rules.specs.Shuttle.{Shuttle, at-home, ordered, next-square, stepped
 use Rattle.rules.proofs.Tests.{every-to-tells, any-to-from}
 use Rattle.promise.specs.Promise.{Placed}
 
-bay-is : (f : Field) (j d : ℕ) → j < f .shuttles → f .bay j ≡ d → is-bay f d ≡ true
+pub bay-is : (f : Field) (j d : ℕ) → j < f .shuttles → f .bay j ≡ d → is-bay f d ≡ true
 unfolding is-bay is-bay-to
 bay-is f j d l e = any-to-from (λ i. eqb (f .bay i) d) (f .shuttles) j l (eq-eqb _ _ e)
 

@@ -24,7 +24,7 @@ use Rattle.agents.proofs.Grants.{all-go-is}
 use Rattle.promise.specs.Promise.{sum-to}
 use Rattle.promise.specs.Rule.{shuttles, Rule-is-the-same}
 
-among-is : (x : ℕ) (ys : List ℕ) → is-in x ys ≡ among x ys
+pub among-is : (x : ℕ) (ys : List ℕ) → is-in x ys ≡ among x ys
 unfolding among is-in
 among-is x [] = refl
 among-is x (y ∷ ys) = ap (λ t. eqb x y || t) (among-is x ys)

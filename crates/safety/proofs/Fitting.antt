@@ -10,7 +10,7 @@ use lib.Dec.{ltb, leb, eqb}
 use lib.ListN.{length, getD, set, take, drop}
 use Rattle.std.proofs.shelf.Lists.{length-set, getD-set-same, getD-set-other}
 use Rattle.std.proofs.shelf.Tests.{and-parts, and-from, leb-true, ltb-true, eqb-true, eq-eqb, ne-eqb, le-leb, cases-eq, cond-true, cond-false}
-use Rattle.rules.specs.Tests.{every}
+use Rattle.rules.specs.Tests.{every, every-to}
 use Rattle.rules.specs.Shuttle.{put}
 use Rattle.rules.proofs.Tests.{every-to-tells, every-to-from}
 use Rattle.safety.specs.declared.shuttle.Shuttle.{Shuttle as Kept}
@@ -31,19 +31,32 @@ fits-tells m s h =
     let r = and-parts (leb (s .to) (length m)) _ (q .1) in
     record { here = ltb-true _ _ (p .0); forward = leb-true _ _ (q .0); within = leb-true _ _ (r .0); squares = r .1 }
 
-pub array-long : (f : Held) → length (f .shuttles) ≡ 16
+-- the parts of what is known of the whole
+record Parts (f : Held) : Type 0 where
+  sixteen : length (f .shuttles) ≡ 16
+  most : f .count ≤ 16
+  near : length (now (f .memory)) ≤ 4160
+  each : every-to (λ i. fits-in (now (f .memory)) (getD (f .shuttles) i nobody)) (f .count) ≡ true
+
+parts : (f : Held) → Parts f
 unfolding all-fit
-array-long f = eqb-true _ _ (and-parts (eqb (length (f .shuttles)) 16) _ (f .fits) .0)
+parts f =
+    let p = and-parts (eqb (length (f .shuttles)) 16) _ (f .fits) in
+    let q = and-parts (leb (f .count) 16) _ (p .1) in
+    let r = and-parts (leb (length (now (f .memory))) 4160) _ (q .1) in
+    record { sixteen = eqb-true _ _ (p .0); most = leb-true _ _ (q .0); near = leb-true _ _ (r .0); each = r .1 }
+
+pub array-long : (f : Held) → length (f .shuttles) ≡ 16
+array-long f = parts f .sixteen
 
 pub count-most : (f : Held) → f .count ≤ 16
-unfolding all-fit
-count-most f = leb-true _ _ (and-parts (leb (f .count) 16) _ (and-parts (eqb (length (f .shuttles)) 16) _ (f .fits) .1) .0)
+count-most f = parts f .most
+
+pub memory-near : (f : Held) → length (now (f .memory)) ≤ 4160
+memory-near f = parts f .near
 
 pub each-fits : (f : Held) (i : ℕ) → i < f .count → fits-in (now (f .memory)) (getD (f .shuttles) i nobody) ≡ true
-unfolding all-fit
-each-fits f =
-    every-to-tells (λ i. fits-in (now (f .memory)) (getD (f .shuttles) i nobody)) (f .count)
-    (and-parts (leb (f .count) 16) _ (and-parts (eqb (length (f .shuttles)) 16) _ (f .fits) .1) .1)
+each-fits f = every-to-tells (λ i. fits-in (now (f .memory)) (getD (f .shuttles) i nobody)) (f .count) (parts f .each)
 
 pub fitting : (f : Held) (i : ℕ) → i < f .count → Fitting (now (f .memory)) (getD (f .shuttles) i nobody)
 fitting f i l = fits-tells (now (f .memory)) (getD (f .shuttles) i nobody) (each-fits f i l)
@@ -56,10 +69,10 @@ fits-put f i s l h =
     let long = array-long f in
     let few = count-most f in
     let there : i < length (f .shuttles) = omega arith in
-    and-from _ _ (eq-eqb _ _ (length-set (f .shuttles) i s ∙ long)) (and-from _ _ (le-leb _ _ few)
+    and-from _ _ (eq-eqb _ _ (length-set (f .shuttles) i s ∙ long)) (and-from _ _ (le-leb _ _ few) (and-from _ _ (le-leb _ _ (memory-near f))
     (every-to-from (λ j. fits-in m (getD (set (f .shuttles) i s) j nobody)) (f .count) (λ j m′. ⊎-elim
     (λ e. ap (λ k. fits-in m (getD (set (f .shuttles) i s) k nobody)) e ∙ ap (fits-in m) (getD-set-same (f .shuttles) i s nobody there) ∙ h)
-    (λ ne. ap (fits-in m) (getD-set-other (f .shuttles) i j s nobody ne) ∙ each-fits f j m′) (cases-eq j i))))
+    (λ ne. ap (fits-in m) (getD-set-other (f .shuttles) i j s nobody ne) ∙ each-fits f j m′) (cases-eq j i)))))
 
 -- and what it stands for
 pub fleet-put : (ss : List Kept) (m : List ℕ) (i : ℕ) (s : Kept) → i < length ss → fleet-of (set ss i s) m ≡ put (fleet-of ss m) i (shuttle-of m s)

@@ -38,9 +38,9 @@ fits-in m s =
     ltb (s .at) 4096 && (leb (s .from) (s .to) && (leb (s .to) (length m)
     && every (λ c. ltb c 4096) (take (s .to - s .from) (drop (s .from) m))))
 
--- sixteen shuttles, of which each of the first n, at most 16, fits
+-- sixteen shuttles, of which each of the first n, at most 16, fits; and memory has room for no more
 unfoldable pub all-fit : List Kept → ℕ → List ℕ → Bool
-all-fit ss n m = eqb (length ss) 16 && (leb n 16 && every-to (λ i. fits-in m (getD ss i nobody)) n)
+all-fit ss n m = eqb (length ss) 16 && (leb n 16 && (leb (length m) 4160 && every-to (λ i. fits-in m (getD ss i nobody)) n))
 
 -- memory with the four numbers of a shuttle, from this place on, that stand before what is left of its route
 abbrev pub headed : List ℕ → (place at : ℕ) → (moving : Bool) → (behind left : ℕ) → List ℕ

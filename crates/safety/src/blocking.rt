@@ -43,8 +43,8 @@ pub fn blockers(fleet: &Fleet, table: &[u16]) -> [u16; 16]
 {
     let mut sets = [0u16; 16];
     for i in 0..fleet.count {
-        let from = fleet.shuttles[i].from;
-        let to = fleet.shuttles[i].to;
+        let from = fleet.shuttles[i].from as usize;
+        let to = fleet.shuttles[i].to as usize;
         sets[i] = met_on(table, &fleet.memory[from..to]);
     }
     sets

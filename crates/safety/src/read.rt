@@ -2,7 +2,7 @@
 ghost use mathlib.Core.Path.{_≡_};
 ghost use mathlib.Core.Bool.{true};
 ghost use Prim.Native.Nat.{ℕ, _+_, _*_, _≤_};
-ghost use lib.ListN.{length};
+ghost use lib.ListN.{length, getD};
 ghost use Rattle.rules.specs.Memory.{memory-ok, shuttle-in};
 ghost use Rattle.safety.specs.Shuttles.{kept-at, fleet-of};
 use super::fleet::Fleet;
@@ -11,16 +11,18 @@ use field::Field;
 
 // The shuttle whose numbers begin at this place.
 fn shuttle_at(memory: &[u16], place: usize) -> Shuttle
-    requires { ⌜ place + 260 ≤ length (now memory) ⌝ }
+    requires there { ⌜ place + 260 ≤ length (now memory) ⌝ }
+    requires near { ⌜ place ≤ 4160 ⌝ }
+    requires room { ⌜ getD (now memory) (place + 3) 0 ≤ 256 ⌝ }
     ensures { λ r. ⌜ r ≡ kept-at (now (memory .entry)) place ⌝ }
 {
-    let from = place + 4;
+    let from = (place + 4) as u16;
     Shuttle {
         at: memory[place],
         moving: memory[place + 1] == 1,
         behind: memory[place + 2],
         from,
-        to: from + memory[place + 3] as usize,
+        to: from + memory[place + 3],
     }
 }
 

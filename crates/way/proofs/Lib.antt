@@ -1,0 +1,2 @@
+-- What several proofs of the way's code share.
+pub mod Size
