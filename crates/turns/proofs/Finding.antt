@@ -196,7 +196,8 @@ unfolding parts
 parts-are-found f c d l m =
     let n = f .across * f .down in
     let q = numbers-long n in
-    let long = all-long f n n (numbers n) in (
+    let long = all-long f n n (numbers n) in
+    (
       all-right f n n (numbers n) (omega arith) (omega arith)
           (λ x y a b e. let e′ : x ≡ y = sym (numbers-at n x (omega arith)) ∙ e ∙ numbers-at n y (omega arith) in subst (Connected f x) e′ (itself x))
           c d (omega arith) (omega arith),
@@ -244,8 +245,8 @@ three-from f i j k p h = ⊎-elim
     let (a, q) = and-parts _ _ t in
     let (b, e) = and-parts _ _ q in
     let same : (eqb i j || (eqb i k || eqb j k)) ≡ true = ⊎-elim (λ z. or-left (eqb i j) _ (eq-eqb i j z))
-    (λ z. or-right (eqb i j) (eqb i k || eqb j k) (⊎-elim (λ z. or-left (eqb i k) _ (eq-eqb i k z)) (λ z. or-right (eqb i k) _ (eq-eqb j k z)) z))
-    (h a b e) in
+        (λ z. or-right (eqb i j) (eqb i k || eqb j k) (⊎-elim (λ z. or-left (eqb i k) _ (eq-eqb i k z)) (λ z. or-right (eqb i k) _ (eq-eqb j k z)) z))
+        (h a b e) in
     or-left (eqb i j || (eqb i k || eqb j k)) _ same)
     (λ (t : (touches f (parts f) i p && (touches f (parts f) j p && touches f (parts f) k p)) ≡ false). or-right _ _ (not-from-false _ t))
     (cases-bool (touches f (parts f) i p && (touches f (parts f) j p && touches f (parts f) k p)))

@@ -118,9 +118,9 @@ module _ (f : Field) (es : List Event) (fleets : ℕ → Fleet) (marks : ℕ →
         let q = less-left f rs (whose t) (subst (λ x. grants f x (whose t) ≡ true) e h) in
         let a = all-come-left f (fleets t) (marks t) in
         let b : left (suc t) ≡ sum-to squares-left (after f (step (whose t) ∷ rs)) (f .shuttles) = ap (λ x. sum-to squares-left x (f .shuttles))
-        (each t .made ∙ ap (λ x. happens f x (step (whose t))) e) in
+            (each t .made ∙ ap (λ x. happens f x (step (whose t))) e) in
         let c : sum-to squares-left (at-choice t) (f .shuttles) ≡ sum-to squares-left (after f rs) (f .shuttles) =
-        ap (λ x. sum-to squares-left x (f .shuttles)) e in
+            ap (λ x. sum-to squares-left x (f .shuttles)) e in
         omega arith)
         (λ (h : (whose t ≡ f .shuttles) × ((i : ℕ) → i < f .shuttles → grants f (at-choice t) i ≡ false)). let z = h .0 in absurd (omega arith))
         (each t .right);
@@ -152,7 +152,7 @@ module _ (f : Field) (es : List Event) (fleets : ℕ → Fleet) (marks : ℕ →
   home d c t h =
       let e : left 0 ≡ sum-to squares-left (after f es) (f .shuttles) = ap (λ x. sum-to squares-left x (f .shuttles)) start in
       let done = all-done-in-time (f .shuttles) left moves due whose d ticking c t
-      (subst (λ x. suc x * max d 1 ≤ t) (sym e) h) in
+          (subst (λ x. suc x * max d 1 ≤ t) (sym e) h) in
       let (rs, r) = reached t in
       subst (All-home f) (sym r) (ends-home f rs ok
       (λ i l. false-from _ (λ y. let s = grants-tells f (after f rs) i y .something-left in

@@ -67,7 +67,7 @@ gives f g routes zero j = inr refl
 gives f g routes (suc k) j =
     let g′ = give-to f g routes k in
     let before : ((j < k) × (g j .moving ≡ false) × (is-empty (g j .route) ≡ true) × (g′ j ≡ ordered (g j) (routes j))) ⊎ (g′ j ≡ g j) =
-    gives f g routes k j in
+        gives f g routes k j in
     ⊎-elim
     (λ (e : is-empty (routes k) ≡ true).
     let z : give-to f g routes (suc k) ≡ g′ = cond-true _ g′ (happens f g′ (order k (routes k))) e in
@@ -203,15 +203,12 @@ module _ (f : Field) (s : Turn) (orders : ℕ → ℕ → List ℕ) (marks : ℕ
   unfolding ordered
   moves-on t i l m = ⊎-elim inl
       (λ ne. let (a, b) = all-come-moves f (all-given f (now t .fleet) (orders t)) (marks t) i l (ap (λ x. x .moving) (sym (kept t i ne)) ∙ m) in
-      inr (
-        ⊎-elim
-            (λ (g : (now t .fleet i .moving ≡ false) × (is-empty (now t .fleet i .route) ≡ true) ×
-            (all-given f (now t .fleet) (orders t) i ≡ ordered (now t .fleet i) (orders t i))).
-            absurd (both-ways _ (ap (λ x. x .moving) (g .2)) a))
-            (λ g. ap (λ x. x .moving) (sym g) ∙ a)
-            (given f (now t .fleet) (orders t) i),
-        b,
-      ))
+      inr (⊎-elim
+      (λ (g : (now t .fleet i .moving ≡ false) × (is-empty (now t .fleet i .route) ≡ true) ×
+      (all-given f (now t .fleet) (orders t) i ≡ ordered (now t .fleet i) (orders t i))).
+      absurd (both-ways _ (ap (λ x. x .moving) (g .2)) a))
+      (λ g. ap (λ x. x .moving) (sym g) ∙ a)
+      (given f (now t .fleet) (orders t) i), b))
       (cases-eq (whose t) i)
 
   -- from after a tick to the next choice: one that moves or has something left takes no order, and comes if it moves and is due
@@ -235,7 +232,7 @@ module _ (f : Field) (s : Turn) (orders : ℕ → ℕ → List ℕ) (marks : ℕ
       let i = whose t in
       let h = granted t l in
       let e : now (suc t) .fleet i ≡ stepped (fleet-at t i) = ap (λ x. x i) (is-fleet t ∙ done f (fleet-at t) (step i) h)
-      ∙ put-here (fleet-at t) i (stepped (fleet-at t i)) in
+          ∙ put-here (fleet-at t) i (stepped (fleet-at t i)) in
       let m = ap (λ x. x .moving) e ∙ steps (fleet-at t i) (grants-tells f (fleet-at t) i h .something-left) .moves in
       ⊎-elim
       (λ (b : (now (suc t) .fleet i .moving ≡ true) × (fleet-at (suc t) i ≡ arrived (now (suc t) .fleet i))). inr (b .1 ∙ ap arrived e))
@@ -297,11 +294,11 @@ module _ (f : Field) (s : Turn) (orders : ℕ → ℕ → List ℕ) (marks : ℕ
   soon t i l v =
       let (a, b) = all-come-moves f (all-given f (now t .fleet) (orders t)) (marks t) i l v in
       let m : now t .fleet i .moving ≡ true = ⊎-elim
-      (λ (g : (now t .fleet i .moving ≡ false) × (is-empty (now t .fleet i .route) ≡ true) ×
-      (all-given f (now t .fleet) (orders t) i ≡ ordered (now t .fleet i) (orders t i))).
-      absurd (both-ways _ (ap (λ x. x .moving) (g .2)) a))
-      (λ g. ap (λ x. x .moving) (sym g) ∙ a)
-      (given f (now t .fleet) (orders t) i) in
+          (λ (g : (now t .fleet i .moving ≡ false) × (is-empty (now t .fleet i .route) ≡ true) ×
+          (all-given f (now t .fleet) (orders t) i ≡ ordered (now t .fleet i) (orders t i))).
+          absurd (both-ways _ (ap (λ x. x .moving) (g .2)) a))
+          (λ g. ap (λ x. x .moving) (sym g) ∙ a)
+          (given f (now t .fleet) (orders t) i) in
       after-now b (due-soon (f .shuttles) (λ t i. now t .fleet i .moving) (λ t i. is-due (marks t) i) whose d moves-on (nn .within) t i l m)
     where
       after-now : is-due (marks t) i ≡ false → (k : ℕ) × (k < d) × (is-due (marks (t + k)) i ≡ true) →
@@ -347,11 +344,12 @@ module _ (f : Field) (s : Turn) (orders : ℕ → ℕ → List ℕ) (marks : ℕ
   home t i l =
       let short = the-choices .own t i l .short in
       let (k, x, y, z) = comes-done f d fleet-at (λ t i. getD (waits-at t) i 0) whose (λ t i. is-due (marks t) i)
-      the-choices i l (most-ticks f d) (λ t v. served t i l v) 256 t short in
+          the-choices i l (most-ticks f d) (λ t v. served t i l v) 256 t short in
       let e = kept (t + k) i (not-chosen (t + k) i l (inr z)) in
       let p = the-choices .good (t + k) .each i l in
       let at = idle-home p z in
-      let j : suc (t + k) ≡ t + suc k = omega arith in (
+      let j : suc (t + k) ≡ t + suc k = omega arith in
+      (
         suc k,
         omega arith,
         subst (λ u. now u .fleet i ≡ at-home f i) j

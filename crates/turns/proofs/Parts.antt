@@ -66,14 +66,11 @@ module _ (f : Field) where
   step-own i c d ds h m =
       let s = route-tells f i c d ds h in
       ⊎-elim
-      (λ (o : open-square f d ≡ true). inr (
-        o,
-        ⊎-elim
-            (λ (e : c ≡ f .bay i). touches-from f i d (getD (parts f) d 0) (and-from _ _ o (subst (λ x. beside f x d ≡ true) e (s .next-to))) refl)
-            (λ (q : (open-square f c ≡ true) × (touches f (parts f) i (getD (parts f) c 0) ≡ true)).
-            subst (λ p. touches f (parts f) i p ≡ true) (one-part-of c d (q .0) o (s .next-to)) (q .1))
-            m,
-      ))
+      (λ (o : open-square f d ≡ true). inr (o, ⊎-elim
+      (λ (e : c ≡ f .bay i). touches-from f i d (getD (parts f) d 0) (and-from _ _ o (subst (λ x. beside f x d ≡ true) e (s .next-to))) refl)
+      (λ (q : (open-square f c ≡ true) × (touches f (parts f) i (getD (parts f) c 0) ≡ true)).
+      subst (λ p. touches f (parts f) i p ≡ true) (one-part-of c d (q .0) o (s .next-to)) (q .1))
+      m))
       (λ (o : (d ≡ f .bay i) × (is-empty ds ≡ true)). inl (o .0))
       (next-is f i c d ds h)
 
@@ -85,7 +82,7 @@ module _ (f : Field) where
   one-part i c (d ∷ ds) o h x a =
       let s = route-tells f i c d ds h in
       let rest : open-square f d ≡ true → among x ds ≡ true → (x ≡ f .bay i) ⊎ ((open-square f x ≡ true) × (getD (parts f) x 0 ≡ getD (parts f) d 0)) = λ o′ a′.
-      one-part i d ds o′ (s .after) x a′ in
+          one-part i d ds o′ (s .after) x a′ in
       ⊎-elim
       (λ (o′ : open-square f d ≡ true).
       let e : getD (parts f) d 0 ≡ getD (parts f) c 0 = sym (one-part-of c d o o′ (s .next-to)) in
@@ -187,8 +184,8 @@ clear-granted f g p i l m e q =
     let n = f .shuttles in
     let h = steps (g i) e in
     let free : (cs : List ℕ) → ((c : ℕ) → is-in c cs ≡ true → among c (g i .route) ≡ true) → Free-for shuttles n g i cs = λ cs sub j b ne.
-    false-from _ (λ v. let (c, x, y) = meets-tells (shuttles .held (g j)) cs v in
-    both-ways _ (q j b ne c (sub c y)) (sym (holds-is (g j) c) ∙ x)) in
+        false-from _ (λ v. let (c, x, y) = meets-tells (shuttles .held (g j)) cs v in
+        both-ways _ (q j b ne c (sub c y)) (sym (holds-is (g j) c) ∙ x)) in
     grants-from f g i (record {
       there = l;
       stands = m;
