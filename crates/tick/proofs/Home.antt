@@ -1,6 +1,5 @@
 -- Coming home by ticks over memory, since each shuttle in memory is that of a tick over fleets.
-use mathlib.Core.Path.{_≡_, sym, subst, _∙_, fun-ext}
-use mathlib.Core.List.{List}
+use mathlib.Core.Path.{_≡_, subst, _∙_, fun-ext}
 use Prim.Native.Nat.{ℕ, suc, _*_, max, _≤_}
 use lib.ListN.{length}
 use Rattle.rules.specs.Event.{after}
@@ -12,7 +11,7 @@ use Rattle.turns.specs.Tick.{tick}
 use Rattle.turns.specs.Home.{Any-tick}
 use Rattle.turns.proofs.Home.{home-in-time, tick-any}
 use Rattle.tick.specs.Tick.{Tick-says}
-use Rattle.tick.specs.Home.{Ticks-over, Memory-comes-home}
+use Rattle.tick.specs.Home.{Memory-comes-home}
 
 pub memory-comes-home : Memory-comes-home
 unfolding Tick-says field-in
