@@ -1,6 +1,6 @@
 -- Counting the waits one by one.
 use mathlib.Core.Path.{_≡_, refl, sym, ap, _∙_}
-use mathlib.Core.Bool.{true, false, cond}
+use mathlib.Core.Bool.{true, false}
 use mathlib.Core.List.{List}
 use denote.Ref.{now}
 use Prim.Native.Nat.{ℕ, zero, suc, _+_, _≤_, _<_}
@@ -11,7 +11,6 @@ use lib.ListN.{length, getD, set}
 use Rattle.std.proofs.shelf.Lists.{getD-set-other}
 use Rattle.std.proofs.shelf.Tests.{cond-true, cond-false, ltb-true}
 use Rattle.std.proofs.shelf.Ways.{tells}
-use Rattle.rules.specs.Tests.{every}
 use Rattle.rules.specs.Shuttle.{Shuttle, Fleet}
 use Rattle.rules.proofs.Tests.{every-tells}
 use Rattle.turns.specs.Tick.{waits, one-more, counted-to}

@@ -4,3 +4,4 @@ pub mod Counts
 pub mod Best
 pub mod Rows
 pub mod Turn
+pub mod Home

@@ -1,17 +1,17 @@
 -- A tick is a row of calls that happen: arrivals that are due, then at most one step. So memory stays reached.
-use mathlib.Core.Path.{_≡_, refl, sym, ap, subst, _∙_}
+use mathlib.Core.Path.{_≡_, refl, sym, subst}
 use mathlib.Core.Bool.{true, false}
 use mathlib.Core.List.{List, []}
-use mathlib.Core.Logic.{inl, inr, ⊎-elim}
+use mathlib.Core.Logic.{inl, ⊎-elim}
 use Prim.Native.Nat.{ℕ, zero, suc, _*_, _≤_, _<_}
 use native.Mathlib.Omega.{arith}
 use lib.Dec.{lit≤}
 use lib.ListN.{length}
 use Rattle.std.proofs.shelf.Tests.{cases-bool}
 use Rattle.rules.specs.Tests.{every}
-use Rattle.rules.specs.Event.{Event, step, arrive, does, who, becomes}
-use Rattle.rules.specs.Memory.{field-in, field-ok, memory-ok, event-in, shuttle-in, stored}
-use Rattle.calls.specs.Call.{Says, Played, more, Is-done, Driven, here, on, Reached}
+use Rattle.rules.specs.Event.{Event, arrive, does}
+use Rattle.rules.specs.Memory.{field-in, field-ok, memory-ok, event-in, shuttle-in}
+use Rattle.calls.specs.Call.{Says, more, Is-done, Driven, here, on, Reached}
 use Rattle.calls.proofs.Refusal.{none-refusal, event-none}
 use Rattle.turns.specs.Tick.{is-due}
 use Rattle.tick.specs.Tick.{called, come-in, Arrived, none, one-more, Called-row}

@@ -1,5 +1,5 @@
 -- The refusals come in their order; what is not turned away is a tick.
-use mathlib.Core.Path.{_≡_, refl, sym, ap, _∙_}
+use mathlib.Core.Path.{refl, sym, ap, _∙_}
 use native.Mathlib.Omega.{arith}
 use Rattle.rules.specs.Memory.{memory-ok}
 use Rattle.rules.proofs.Fields.{accepted}
