@@ -25,8 +25,10 @@ mod scrambled;
 mod tally;
 mod text_examples;
 mod texts;
+mod ticks;
 #[path = "../../bench/src/tuned.rs"]
 mod tuned;
+mod ways;
 mod wrong;
 mod wrong_copies;
 
@@ -41,8 +43,10 @@ use texts::Program;
 const HELP: &str = "\
 trials library       compares the static library with the reference (built with --features library)
 trials copy          compares a copy of the rules by another algorithm with it
-trials bench         compares the two Rust variants that the library's speed is measured beside
+trials bench         compares the Rust variants that the library's speed is measured beside
 trials wrong-copies  shows that each of many wrong copies is caught
+                     each of these is about events; with the word way behind it about shortest routes, with the word
+                     tick about whose turn it is (the library then built with --features way or tick)
 trials texts JUDGE PLAY
                      runs the two programs on random texts and compares what they print with the models
 trials model judge   prints what the program judge (or play) is expected to print for standard input
@@ -50,8 +54,8 @@ trials text judge N  prints random text N for the program judge (or play)
 
 --seed N             another row of random numbers
 --cases N            about so many calls of each random kind, or texts for each program
---kind K --hall N    one hall alone: kind playing or scrambled
---only N             one text alone";
+--kind K --hall N    one hall of events alone: kind playing or scrambled
+--only N             one text alone, or one case of ways or ticks";
 
 fn main() -> ExitCode {
     match Options::read(std::env::args().skip(1)).and_then(|options| perform(&options)) {
@@ -70,12 +74,38 @@ fn perform(options: &Options) -> Result<ExitCode, String> {
         ["copy"] => compared(&mut wrong::copy::RulesCopy { fault: None }, options, extent(1_000_000)),
         ["bench"] => bench::all(extent(300_000)),
         ["wrong-copies"] => wrong_copies::all(extent(20_000)),
+        [who, "way"] => of_ways(who, Extent { only: options.only, ..extent(40_000) })?,
+        [who, "tick"] => of_ticks(who, Extent { only: options.only, ..extent(100_000) })?,
         ["texts", judge, play] => texts(options, judge, play).map_err(|error| error.to_string())?,
         ["model", name] => return show_model(program(name)?).map_err(|error| error.to_string()),
         ["text", name, number] => return show_text(options, program(name)?, number),
         other => return Err(format!("unknown command {other:?}")),
     };
     Ok(report::finish(&groups))
+}
+
+fn of_ways(who: &str, extent: Extent) -> Result<Vec<Group>, String> {
+    match who {
+        #[cfg(feature = "way")]
+        "library" => Ok(ways::all(&mut library::Library, extent)),
+        #[cfg(not(feature = "way"))]
+        "library" => Err("this was built without the library's way; build it with --features way".to_string()),
+        "copy" => Ok(ways::all(&mut wrong::way::WayCopy { fault: None }, extent)),
+        "wrong-copies" => Ok(wrong_copies::all_ways(Extent { calls: extent.calls / 4, ..extent })),
+        _ => Err(format!("unknown command {who} way")),
+    }
+}
+
+fn of_ticks(who: &str, extent: Extent) -> Result<Vec<Group>, String> {
+    match who {
+        #[cfg(feature = "tick")]
+        "library" => Ok(ticks::all(&mut library::Library, extent)),
+        #[cfg(not(feature = "tick"))]
+        "library" => Err("this was built without the library's tick; build it with --features tick".to_string()),
+        "copy" => Ok(ticks::all(&mut wrong::tick::TickCopy { fault: None }, extent)),
+        "wrong-copies" => Ok(wrong_copies::all_ticks(Extent { calls: extent.calls / 10, ..extent })),
+        _ => Err(format!("unknown command {who} tick")),
+    }
 }
 
 fn texts(options: &Options, judge: &str, play: &str) -> io::Result<Vec<Group>> {
