@@ -55,6 +55,7 @@ trials text judge N  prints random text N for the program judge (or play)
 --seed N             another row of random numbers
 --cases N            about so many calls of each random kind, or texts for each program
 --kind K --hall N    one hall of events alone: kind playing or scrambled
+--without way        play without that command, or without tick; it can't be read then
 --only N             one text alone, or one case of ways or ticks";
 
 fn main() -> ExitCode {
@@ -77,8 +78,8 @@ fn perform(options: &Options) -> Result<ExitCode, String> {
         [who, "way"] => of_ways(who, Extent { only: options.only, ..extent(40_000) })?,
         [who, "tick"] => of_ticks(who, Extent { only: options.only, ..extent(100_000) })?,
         ["texts", judge, play] => texts(options, judge, play).map_err(|error| error.to_string())?,
-        ["model", name] => return show_model(program(name)?).map_err(|error| error.to_string()),
-        ["text", name, number] => return show_text(options, program(name)?, number),
+        ["model", name] => return show_model(program(options, name)?).map_err(|error| error.to_string()),
+        ["text", name, number] => return show_text(options, program(options, name)?, number),
         other => return Err(format!("unknown command {other:?}")),
     };
     Ok(report::finish(&groups))
@@ -111,13 +112,13 @@ fn of_ticks(who: &str, extent: Extent) -> Result<Vec<Group>, String> {
 fn texts(options: &Options, judge: &str, play: &str) -> io::Result<Vec<Group>> {
     let programs = Programs::new(judge, play)?;
     let mut groups = text_examples::all();
-    groups.extend(programs.all(options.seed, options.cases.unwrap_or(1500), options.only));
+    groups.extend(programs.all(options.commands, options.seed, options.cases.unwrap_or(1500), options.only));
     Ok(groups)
 }
 
-fn program(name: &str) -> Result<Program, String> {
-    let named = [Program::Judge, Program::Play].into_iter().find(|program| program.name() == name);
-    named.ok_or(format!("no program {name}"))
+fn program(options: &Options, name: &str) -> Result<Program, String> {
+    let programs = [Program::Judge, Program::Play(options.commands)];
+    programs.into_iter().find(|program| program.name() == name).ok_or(format!("no program {name}"))
 }
 
 fn show_model(program: Program) -> io::Result<ExitCode> {
