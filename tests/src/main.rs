@@ -14,6 +14,10 @@ mod model;
 mod options;
 #[path = "../../bench/src/plain.rs"]
 mod plain;
+#[path = "../../bench/src/plain_tick.rs"]
+mod plain_tick;
+#[path = "../../bench/src/plain_way.rs"]
+mod plain_way;
 mod plan;
 mod playing;
 mod programs;
@@ -92,6 +96,7 @@ fn of_ways(who: &str, extent: Extent) -> Result<Vec<Group>, String> {
         #[cfg(not(feature = "way"))]
         "library" => Err("this was built without the library's way; build it with --features way".to_string()),
         "copy" => Ok(ways::all(&mut wrong::way::WayCopy { fault: None }, extent)),
+        "bench" => Ok(bench::all_ways(extent)),
         "wrong-copies" => Ok(wrong_copies::all_ways(Extent { calls: extent.calls / 4, ..extent })),
         _ => Err(format!("unknown command {who} way")),
     }
@@ -104,6 +109,7 @@ fn of_ticks(who: &str, extent: Extent) -> Result<Vec<Group>, String> {
         #[cfg(not(feature = "tick"))]
         "library" => Err("this was built without the library's tick; build it with --features tick".to_string()),
         "copy" => Ok(ticks::all(&mut wrong::tick::TickCopy { fault: None }, extent)),
+        "bench" => Ok(bench::all_ticks(extent)),
         "wrong-copies" => Ok(wrong_copies::all_ticks(Extent { calls: extent.calls / 10, ..extent })),
         _ => Err(format!("unknown command {who} tick")),
     }
