@@ -1,4 +1,2 @@
 -- Proofs of the worked examples.
 pub mod Open
-pub mod Reached
-pub mod Unsafe

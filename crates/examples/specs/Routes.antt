@@ -1,10 +1,7 @@
--- What is a route in the small hall, and that nobody's route leads over another's bay.
+-- What is a route in the small hall.
 use mathlib.Core.Path.{_≡_}
 use mathlib.Core.Bool.{true, false}
-use mathlib.Core.List.{List, [], _∷_}
-use Prim.Native.Nat.{ℕ, _<_}
-use Rattle.rules.specs.Tests.{among}
-use Rattle.rules.specs.Field.{Field, sound}
+use mathlib.Core.List.{[], _∷_}
 use Rattle.rules.specs.Route.{route-ok}
 use Rattle.examples.specs.Hall.{hall}
 
@@ -26,9 +23,3 @@ pub record Some-routes : Type 0 where
   pub no-end-outside : route-ok hall 0 0 (1 ∷ 2 ∷ []) ≡ false
   -- no square at all, outside the bay
   pub no-rest-outside : route-ok hall 0 1 [] ≡ false
-
--- a shuttle in its bay blocks nobody: in every sound field nobody else's route leads over that bay
-abbrev pub No-route-over-other-bays : Type 0
-No-route-over-other-bays =
-    (f : Field) (i j c : ℕ) (r : List ℕ) → sound f ≡ true → i < f .shuttles → j < f .shuttles → (j ≡ i → ⊥)
-    → route-ok f i c r ≡ true → among (f .bay j) r ≡ false

@@ -36,13 +36,7 @@ blocked-pair = fleet (standing 1 (2 ∷ 6 ∷ 5 ∷ 4 ∷ 0 ∷ []) ∷ standing
 
 -- that is not safe, though neither moves and every square below them is free
 abbrev pub Blocked-pair-is-not-safe : Type 0
-Blocked-pair-is-not-safe = (safe 2 blocked-pair ≡ false) × (Safe 2 blocked-pair → ⊥)
-
--- and no row of events whatever leads there, whether they stand or move
-abbrev pub Blocked-pair-never-comes-about : Type 0
-Blocked-pair-never-comes-about =
-    (es : List Event) → after hall es 0 .at ≡ 1 → after hall es 0 .route ≡ 2 ∷ 6 ∷ 5 ∷ 4 ∷ 0 ∷ [] → after hall es 1 .at ≡ 2
-    → after hall es 1 .route ≡ 1 ∷ 5 ∷ 6 ∷ 7 ∷ 3 ∷ [] → ⊥
+Blocked-pair-is-not-safe = safe 2 blocked-pair ≡ false
 
 -- shuttle 0 is driven over 1 2 1 to its bay while shuttle 1 waits with 2 1 2 3 left; latest first
 abbrev pub whole-way : List Event

@@ -57,7 +57,6 @@ pub record Ring-is-not-safe : Type 0 where
   pub on-a-field : sound loop ≡ true
   pub with-routes : every-to (λ i. route-ok loop i (ring i .at) (ring i .route)) 6 ≡ true
   pub not-safe : safe 6 ring ≡ false
-  pub no-order-exists : Safe 6 ring → ⊥
   pub any-five-run : every-to (λ i. try 5 ring (without i (all-to 6))) 6 ≡ true
   pub safe-before : safe 6 ring-but-one ≡ true
   pub free-square : held-by-other ring-but-one 5 11 6 ≡ false

@@ -1,10 +1,11 @@
-// Worked examples of the rules. Each function says one of them in its contract, so that the check asks for its proof; it
-// computes nothing.
-ghost use Rattle.examples.specs.Steps.{Hall-is-sound, Either-may-step, One-may-step, Blocked-pair-is-not-safe, Blocked-pair-never-comes-about};
+// Worked examples of the rules, computed from the rules alone: whatever becomes of the theorems, these show what the rules
+// say. Each function says one of them in its contract, so that the check asks for its proof; it computes nothing.
+ghost use Rattle.examples.specs.Steps.{Hall-is-sound, Either-may-step, One-may-step, Blocked-pair-is-not-safe};
 ghost use Rattle.examples.specs.Steps.{Each-event-happens, Moving-holds-both, When-the-other-may-step};
-ghost use Rattle.examples.specs.Routes.{Some-routes, No-route-over-other-bays};
+ghost use Rattle.examples.specs.Routes.{Some-routes};
+ghost use Rattle.examples.specs.Orders.{Taken-only-when-idle, Longest-route, Order-stands};
+ghost use Rattle.examples.specs.Numbers.{Some-fields, Some-memory, Some-refusals};
 ghost use Rattle.examples.specs.Wrong.{One-pass-fails, Ring-is-not-safe, Taken-while-another-moves, No-second-step};
-ghost use Rattle.examples.specs.Reach.{Row-is-accepted, Busy-is-reached};
 
 // Two shuttles that stand in their bays with a route each: either may step.
 pub fn either_may_step() -> u8
@@ -28,13 +29,6 @@ pub fn blocked_pair_is_not_safe() -> u8
     0
 }
 
-// No row of events leads there.
-pub fn blocked_pair_never_comes_about() -> u8
-    ensures { λ _. ⌜ Blocked-pair-never-comes-about ⌝ }
-{
-    0
-}
-
 // A shuttle is driven out and back while the other waits: what it holds, and when the other may step.
 pub fn when_the_other_may_step() -> u8
     ensures driven { λ _. ⌜ Each-event-happens ⌝ }
@@ -47,13 +41,6 @@ pub fn when_the_other_may_step() -> u8
 // What is a route, and what isn't.
 pub fn some_routes() -> u8
     ensures { λ _. ⌜ Some-routes ⌝ }
-{
-    0
-}
-
-// A shuttle in its bay blocks nobody.
-pub fn no_route_over_other_bays() -> u8
-    ensures { λ _. ⌜ No-route-over-other-bays ⌝ }
 {
     0
 }
@@ -86,16 +73,38 @@ pub fn no_second_step() -> u8
     0
 }
 
-// A small field is accepted.
-pub fn row_is_accepted() -> u8
-    ensures { λ _. ⌜ Row-is-accepted ⌝ }
+// An order is taken only by a shuttle that stands with nothing left.
+pub fn taken_only_when_idle() -> u8
+    ensures { λ _. ⌜ Taken-only-when-idle ⌝ }
 {
     0
 }
 
-// Memory is reached in which a shuttle moves, has squares left, and another's step is not granted.
-pub fn busy_is_reached() -> u8
-    ensures { λ _. ⌜ Busy-is-reached ⌝ }
+// A route of 256 squares is taken, and no longer one; the shuttle stands then.
+pub fn longest_route() -> u8
+    ensures longest { λ _. ⌜ Longest-route ⌝ }
+    ensures stands { λ _. ⌜ Order-stands ⌝ }
+{
+    0
+}
+
+// What is a field in numbers, and what isn't.
+pub fn some_fields() -> u8
+    ensures { λ _. ⌜ Some-fields ⌝ }
+{
+    0
+}
+
+// What is memory, and how it is read and written.
+pub fn some_memory() -> u8
+    ensures { λ _. ⌜ Some-memory ⌝ }
+{
+    0
+}
+
+// What is an event in numbers, and which refusal comes first.
+pub fn some_refusals() -> u8
+    ensures { λ _. ⌜ Some-refusals ⌝ }
 {
     0
 }

@@ -1,6 +1,0 @@
--- No row of events leads there.
-use Rattle.examples.proofs.Unsafe.{blocked-pair-never-comes-about}
-use Rattle.examples.proofs.blocked_pair_never_comes_about.Needs as need
-
-pub returns : need.returns
-returns c = blocked-pair-never-comes-about

@@ -1,8 +1,0 @@
--- The small field is accepted: computed.
-use mathlib.Core.Path.{refl}
-use Rattle.examples.proofs.Open.{rules}
-use Rattle.examples.proofs.row_is_accepted.Needs as need
-
-pub returns : need.returns
-unfolding rules
-returns c = (refl, refl)

@@ -1,0 +1,3 @@
+-- Proofs of the instances.
+pub mod Reached
+pub mod Unsafe

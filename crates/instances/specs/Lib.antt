@@ -1,0 +1,3 @@
+-- Instances of the theorems, as statements.
+pub mod Never
+pub mod Reach
