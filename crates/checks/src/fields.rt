@@ -4,8 +4,6 @@ use super::small::WALLS;
 use field::Field;
 use field::is_field;
 use route::Verdict;
-use route::VerdictDebug;
-use route::VerdictPartialEq;
 use route::judge;
 use std::test::*;
 
@@ -53,16 +51,14 @@ fn routes_are_judged() -> Result<(), Fail> {
         walls: &WALLS,
         bays: &BAYS,
     };
-    check_eq(judge(&field, 0, 0, &[1, 2, 6, 5, 4, 0]), Verdict::Right)?;
-    check_eq(judge(&field, 0, 0, &[]), Verdict::Right).note("no way at all, in the bay")?;
-    check_eq(judge(&field, 0, 1, &[]), Verdict::OutsideAfter(0))?;
-    check_eq(judge(&field, 0, 0, &[1, 2]), Verdict::OutsideAfter(2))?;
-    check_eq(
-        judge(&field, 0, 0, &[1, 2, 3, 2, 1, 0]),
-        Verdict::WrongAt(2),
-    ).note("another's bay")?;
-    check_eq(judge(&field, 0, 0, &[1, 0, 1, 0]), Verdict::WrongAt(1)).note(
-        "the own bay on the way",
-    )?;
-    check_eq(judge(&field, 1, 3, &[4, 5, 6, 7, 3]), Verdict::WrongAt(0)).note("the next row")
+    check(matches!(judge(&field, 0, 0, &[1, 2, 6, 5, 4, 0]), Verdict::Right))?;
+    check(matches!(judge(&field, 0, 0, &[]), Verdict::Right))?;
+    check(matches!(judge(&field, 0, 1, &[]), Verdict::OutsideAfter(0)))?;
+    check(matches!(judge(&field, 0, 0, &[1, 2]), Verdict::OutsideAfter(2)))?;
+    let other_bay = judge(&field, 0, 0, &[1, 2, 3, 2, 1, 0]);
+    check(matches!(other_bay, Verdict::WrongAt(2)))?;
+    let own_bay = judge(&field, 0, 0, &[1, 0, 1, 0]);
+    check(matches!(own_bay, Verdict::WrongAt(1)))?;
+    let next_row = judge(&field, 1, 3, &[4, 5, 6, 7, 3]);
+    check(matches!(next_row, Verdict::WrongAt(0)))
 }
