@@ -109,9 +109,9 @@ module _ (n : ℕ) (left : ℕ → ℕ) (moves due : ℕ → ℕ → Bool) (whos
         let z = nothing-left (left 0) 0 (omega arith) in
         let z′ : left s ≡ 0 = subst (λ x. left x ≡ 0) (omega arith) z in
         let none : (u : ℕ) → s ≤ u → left u ≡ 0 = λ u a.
-            let p = falls s (u - s) in let e : left (s + (u - s)) ≡ left u = ap left (omega arith) in omega arith in
+        let p = falls s (u - s) in let e : left (s + (u - s)) ≡ left u = ap left (omega arith) in omega arith in
         let no-grant : (u : ℕ) → s ≤ u → n ≤ whose u = λ u a.
-            ⊎-elim (λ l. let q = r .one-less u l in let o = none u a in absurd (omega arith)) (λ l. l) (cases-lt (whose u) n) in
+        ⊎-elim (λ l. let q = r .one-less u l in let o = none u a in absurd (omega arith)) (λ l. l) (cases-lt (whose u) n) in
         let m : ℕ = t - max d 1 in (
           none t (omega arith),
           λ i l. subst (λ x. moves x i ≡ false) (omega arith) (at-rest m (λ k b. no-grant (m + k) (omega arith)) i l),

@@ -90,11 +90,11 @@ module _ (n : ℕ) (w : ℕ → ℕ → ℕ) (c : ℕ → ℕ) (x : ℕ) (l : x 
   some-time zero t r j = absurd (omega arith)
   some-time (suc m) t r j =
       let here : (c t ≡ x) ⊎ Stop t → (k : ℕ) × (k < suc m) × J (t + k) × ((c (t + k) ≡ x) ⊎ Stop (t + k)) = λ h.
-          let e : t ≡ t + 0 = omega arith in (0, omega arith, subst J e j, subst (λ u. (c u ≡ x) ⊎ Stop u) e h) in
+      let e : t ≡ t + 0 = omega arith in (0, omega arith, subst J e j, subst (λ u. (c u ≡ x) ⊎ Stop u) e h) in
       let later : rivals (suc t) < m → J (suc t) → (k : ℕ) × (k < suc m) × J (t + k) × ((c (t + k) ≡ x) ⊎ Stop (t + k)) = λ q j′.
-          let (k, a, b, h) = some-time m (suc t) q j′ in
-          let e : suc t + k ≡ t + suc k = omega arith in
-          (suc k, omega arith, subst J e b, subst (λ u. (c u ≡ x) ⊎ Stop u) e h) in
+      let (k, a, b, h) = some-time m (suc t) q j′ in
+      let e : suc t + k ≡ t + suc k = omega arith in
+      (suc k, omega arith, subst J e b, subst (λ u. (c u ≡ x) ⊎ Stop u) e h) in
       ⊎-elim (λ q. here (inl q))
       (λ (ne : c t ≡ x → ⊥). ⊎-elim (λ q. here (inl q))
       (λ (o : Stop t ⊎ (J (suc t) × (w (suc t) x ≡ suc (w t x)))). ⊎-elim (λ q. here (inr q))
@@ -106,5 +106,5 @@ module _ (n : ℕ) (w : ℕ → ℕ → ℕ) (c : ℕ → ℕ) (x : ℕ) (l : x 
   turn-comes t j = some-time n t
       (let h = number-most (λ _. true) n in
       let few = number-fewer (λ _. true) (λ i. leb (suc i) n && rival (w t) x i) (λ _ _. refl) n x l refl
-          (and-right _ _ (and-left _ _ (not-from-true _ (eq-eqb x x refl)))) in
+      (and-right _ _ (and-left _ _ (not-from-true _ (eq-eqb x x refl)))) in
       omega arith) j

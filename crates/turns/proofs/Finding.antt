@@ -1,20 +1,22 @@
 -- The parts of a field are found by joining, and so whether each touches at most two bays.
 use mathlib.Core.Path.{_≡_, refl, sym, ap, subst, _∙_}
-use mathlib.Core.Bool.{Bool, true, false, not, cond, _&&_, _||_}
-use mathlib.Core.List.{List, [], _∷_, _++_, map}
+use mathlib.Core.Bool.{Bool, true, false, cond, _&&_, _||_}
+use mathlib.Core.List.{List, map}
 use mathlib.Core.Logic.{_⊎_, inl, inr, ⊎-elim}
 use Prim.Native.Nat.{ℕ, zero, suc, _*_, _≤_, _<_}
 use native.Mathlib.Omega.{arith}
 use lib.Dec.{eqb}
 use lib.ListN.{length, getD}
-use Rattle.std.proofs.shelf.Tests.{both-ways, cases-bool, cases-lt, cond-true, cond-false, cond-both, and-parts, and-from, or-cases, or-left, or-right, or-parts}
-use Rattle.std.proofs.shelf.Tests.{not-true, not-from-false, eqb-true, eqb-false, eq-eqb, ltb-true}
-use Rattle.std.proofs.shelf.Lists.{length-append, length-map, getD-append-left, getD-at}
-use Rattle.rules.specs.Tests.{every-to, any-to}
+use Rattle.std.proofs.shelf.Tests.{both-ways, cases-bool, cases-lt, cond-true, cond-false, cond-both, and-parts}
+use Rattle.std.proofs.shelf.Tests.{and-from, or-cases, or-left, or-right}
+use Rattle.std.proofs.shelf.Tests.{not-true, not-from-false, eqb-true, eq-eqb, ltb-true}
+use Rattle.std.specs.Iters.{counting}
+use Rattle.std.proofs.shelf.Lists.{length-map, getD-map}
+use Rattle.std.proofs.shelf.Counted.{length-counting, getD-counting}
 use Rattle.rules.specs.Field.{Field, free-square, beside}
 use Rattle.rules.proofs.Tests.{every-to-tells, every-to-from, any-to-tells, any-to-from}
-use Rattle.agents.proofs.Tests.{false-from}
-use Rattle.turns.specs.Parts.{open-square, linked, Connected, itself, link, back, chain, at-bay, At-most-two, numbers, joined, joined-row, joined-all, parts}
+use Rattle.turns.specs.Parts.{open-square, linked, Connected, itself, link, back, chain, at-bay, At-most-two, joined}
+use Rattle.turns.specs.Parts.{joined-row, joined-all, parts}
 use Rattle.turns.specs.Parts.{touches, not-three, never-three, at-most-two}
 use Rattle.turns.specs.Parts.{Parts-are-found, At-most-two-is-found}
 
@@ -30,27 +32,6 @@ linked-tells f c d h = let (a, q) = and-parts _ _ h in let (b, e) = and-parts _ 
 pub at-bay-tells : (f : Field) (i c : ℕ) → at-bay f i c ≡ true → (open-square f c ≡ true) × (beside f (f .bay i) c ≡ true)
 unfolding at-bay
 at-bay-tells f i c h = and-parts _ _ h
-
--- the numbers below n
-numbers-long : (n : ℕ) → length (numbers n) ≡ n
-unfolding numbers
-numbers-long zero = refl
-numbers-long (suc n) = let e = length-append (numbers n) (n ∷ []) in let q = numbers-long n in omega arith
-
-numbers-at : (n c : ℕ) → c < n → getD (numbers n) c 0 ≡ c
-unfolding numbers
-numbers-at zero c l = absurd (omega arith)
-numbers-at (suc n) c l =
-    let before : c < n → getD (numbers n) c 0 ≡ c = numbers-at n c in
-    let long = numbers-long n in
-    ⊎-elim (λ m. getD-append-left (numbers n) (n ∷ []) 0 c (omega arith) ∙ before m)
-    (λ m. let q : c ≡ n = omega arith in getD-at (numbers n) n [] 0 c (omega arith) ∙ sym q)
-    (cases-lt c n)
-
-map-at : (g : ℕ → ℕ) (ps : List ℕ) (c : ℕ) → c < length ps → getD (map g ps) c 0 ≡ g (getD ps c 0)
-map-at g [] c l = absurd (omega arith)
-map-at g (p ∷ ps) zero l = refl
-map-at g (p ∷ ps) (suc c) l = map-at g ps c (omega arith)
 
 module _ (f : Field) where
   -- as many numbers as before
@@ -76,7 +57,7 @@ module _ (f : Field) where
   joined-at c d ps x l = ⊎-elim
       (λ (h : linked f c d ≡ true).
       ap (λ qs. getD qs x 0) (cond-true _ (map (λ p. cond (eqb p (getD ps d 0)) (getD ps c 0) p) ps) ps h)
-      ∙ map-at (λ p. cond (eqb p (getD ps d 0)) (getD ps c 0) p) ps x l
+      ∙ getD-map (λ p. cond (eqb p (getD ps d 0)) (getD ps c 0) p) ps x 0 0 l
       ∙ ap (λ b. cond (b && eqb (getD ps x 0) (getD ps d 0)) (getD ps c 0) (getD ps x 0)) (sym h))
       (λ (h : linked f c d ≡ false).
       ap (λ qs. getD qs x 0) (cond-false _ (map (λ p. cond (eqb p (getD ps d 0)) (getD ps c 0) p) ps) ps h)
@@ -123,7 +104,8 @@ module _ (f : Field) where
   unfolding joined-all
   all-links zero d b e ps k o l m h = absurd (omega arith)
   all-links (suc c) d b e ps k o l m h =
-      let before : b < c → getD (joined-all f c d ps) b 0 ≡ getD (joined-all f c d ps) e 0 = λ a. all-links c d b e ps (omega arith) o a m h in
+      let before : b < c → getD (joined-all f c d ps) b 0 ≡ getD (joined-all f c d ps) e 0 = λ a. all-links c d b e ps
+      (omega arith) o a m h in
       let qs = joined-all f c d ps in
       let q = all-long c d ps in
       ⊎-elim (λ a. row-keeps c d qs b e (omega arith) (omega arith) (before a))
@@ -162,7 +144,8 @@ module _ (f : Field) where
           (cases-bool (gets y)))
           (λ (a : gets x ≡ false). ⊎-elim
           (λ (b : gets y ≡ true). let (h, b′) = and-parts (linked f c d) _ b in
-          back y x (across y x m l h (eqb-true _ _ b′) (sym (cond-true _ (number c) (number y) b) ∙ sym e ∙ cond-false _ (number c) (number x) a)))
+          back y x (across y x m l h (eqb-true _ _ b′) (sym (cond-true _ (number c) (number y) b) ∙ sym e ∙ cond-false _ (number c)
+          (number x) a)))
           (λ (b : gets y ≡ false). r x y l m (sym (cond-false _ (number c) (number x) a) ∙ e ∙ cond-false _ (number c) (number y) b))
           (cases-bool (gets y)))
           (cases-bool (gets x))
@@ -186,8 +169,8 @@ module _ (f : Field) where
   one-number (link c d h) =
       let n = f .across * f .down in
       let (a, b, _) = linked-tells f c d h in
-      let q = numbers-long n in
-      all-links n n c d (numbers n) (omega arith) (omega arith) (open-below f c a) (open-below f d b) h
+      let q = length-counting 0 n in
+      all-links n n c d (counting 0 n) (omega arith) (omega arith) (open-below f c a) (open-below f d b) h
   one-number (back c d r) = sym (one-number r)
   one-number (chain c d e r q) = one-number r ∙ one-number q
 
@@ -195,11 +178,11 @@ pub parts-are-found : Parts-are-found
 unfolding parts
 parts-are-found f c d l m =
     let n = f .across * f .down in
-    let q = numbers-long n in
-    let long = all-long f n n (numbers n) in
-    (
-      all-right f n n (numbers n) (omega arith) (omega arith)
-          (λ x y a b e. let e′ : x ≡ y = sym (numbers-at n x (omega arith)) ∙ e ∙ numbers-at n y (omega arith) in subst (Connected f x) e′ (itself x))
+    let q = length-counting 0 n in
+    let long = all-long f n n (counting 0 n) in (
+      all-right f n n (counting 0 n) (omega arith) (omega arith)
+          (λ x y a b e. let u = getD-counting 0 n x 0 (omega arith) in let v = getD-counting 0 n y 0
+          (omega arith) in let e′ : x ≡ y = omega arith in subst (Connected f x) e′ (itself x))
           c d (omega arith) (omega arith),
       one-number f,
     )
@@ -217,7 +200,8 @@ touches-from f i c p a e = any-to-from (λ c. at-bay f i c && eqb (getD (parts f
     (open-below f c (at-bay-tells f i c a .0)) (and-from _ _ a (eq-eqb _ _ e))
 
 -- of three that touch a part two are the same
-pub two-touch : (f : Field) → At-most-two f → (i j k p : ℕ) → i < f .shuttles → j < f .shuttles → k < f .shuttles → touches f (parts f) i p ≡ true →
+pub two-touch : (f : Field) → At-most-two f → (i j k p : ℕ) → i < f .shuttles → j < f .shuttles → k < f .shuttles → touches f
+    (parts f) i p ≡ true →
     touches f (parts f) j p ≡ true → touches f (parts f) k p ≡ true → (i ≡ j) ⊎ ((i ≡ k) ⊎ (j ≡ k))
 two-touch f two i j k p l m o a b e =
     let (x, x₁, x₂) = touches-tells f i p a in
@@ -229,11 +213,13 @@ two-touch f two i j k p l m o a b e =
     same i j x y a b = parts-are-found f x y (open-below f x (at-bay-tells f i x a .0)) (open-below f y (at-bay-tells f j y b .0)) .0
 
 -- the test of three, both ways
-three-tells : (f : Field) (i j k p : ℕ) → not-three f (parts f) i j k p ≡ true → touches f (parts f) i p ≡ true → touches f (parts f) j p ≡ true → touches f (parts f) k p ≡ true →
+three-tells : (f : Field) (i j k p : ℕ) → not-three f (parts f) i j k p ≡ true → touches f (parts f) i p ≡ true → touches f
+    (parts f) j p ≡ true → touches f (parts f) k p ≡ true →
     (i ≡ j) ⊎ ((i ≡ k) ⊎ (j ≡ k))
 unfolding not-three
 three-tells f i j k p h a b e = ⊎-elim
-    (λ q. ⊎-elim (λ z. inl (eqb-true _ _ z)) (λ z. inr (⊎-elim (λ z. inl (eqb-true _ _ z)) (λ z. inr (eqb-true _ _ z)) (or-cases _ _ z))) (or-cases _ _ q))
+    (λ q. ⊎-elim (λ z. inl (eqb-true _ _ z)) (λ z. inr (⊎-elim (λ z. inl (eqb-true _ _ z)) (λ z. inr (eqb-true _ _ z)) (or-cases _ _ z)))
+    (or-cases _ _ q))
     (λ q. absurd (both-ways _ (not-true _ q) (and-from _ _ a (and-from _ _ b e))))
     (or-cases _ _ h)
 
@@ -245,8 +231,9 @@ three-from f i j k p h = ⊎-elim
     let (a, q) = and-parts _ _ t in
     let (b, e) = and-parts _ _ q in
     let same : (eqb i j || (eqb i k || eqb j k)) ≡ true = ⊎-elim (λ z. or-left (eqb i j) _ (eq-eqb i j z))
-        (λ z. or-right (eqb i j) (eqb i k || eqb j k) (⊎-elim (λ z. or-left (eqb i k) _ (eq-eqb i k z)) (λ z. or-right (eqb i k) _ (eq-eqb j k z)) z))
-        (h a b e) in
+    (λ z. or-right (eqb i j) (eqb i k || eqb j k) (⊎-elim (λ z. or-left (eqb i k) _ (eq-eqb i k z))
+    (λ z. or-right (eqb i k) _ (eq-eqb j k z)) z))
+    (h a b e) in
     or-left (eqb i j || (eqb i k || eqb j k)) _ same)
     (λ (t : (touches f (parts f) i p && (touches f (parts f) j p && touches f (parts f) k p)) ≡ false). or-right _ _ (not-from-false _ t))
     (cases-bool (touches f (parts f) i p && (touches f (parts f) j p && touches f (parts f) k p)))
@@ -258,8 +245,10 @@ at-most-two-is-found f = (
       let e₁ = one-number f r in
       let e₂ = one-number f q in
       three-tells f i j k (getD (parts f) c 0)
-      (every-to-tells _ _ (every-to-tells _ _ (every-to-tells _ _ (every-to-tells _ _ h i l) j m) k o) c (open-below f c (at-bay-tells f i c a .0)))
-      (touches-from f i c (getD (parts f) c 0) a refl) (touches-from f j d (getD (parts f) c 0) b (sym e₁)) (touches-from f k e (getD (parts f) c 0) z (sym e₂ ∙ sym e₁)),
+      (every-to-tells _ _ (every-to-tells _ _ (every-to-tells _ _ (every-to-tells _ _ h i l) j m) k o) c
+      (open-below f c (at-bay-tells f i c a .0)))
+      (touches-from f i c (getD (parts f) c 0) a refl) (touches-from f j d (getD (parts f) c 0) b (sym e₁))
+      (touches-from f k e (getD (parts f) c 0) z (sym e₂ ∙ sym e₁)),
   λ two. every-to-from _ _ (λ i l. every-to-from _ _ (λ j m. every-to-from _ _ (λ k o. every-to-from _ _ (λ c _.
       three-from f i j k (getD (parts f) c 0) (two-touch f two i j k (getD (parts f) c 0) l m o))))),
 )

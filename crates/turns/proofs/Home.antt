@@ -1,17 +1,17 @@
 -- Coming home by ticks: the fleets of a row of ticks are ticking, so the bound holds of them.
 use mathlib.Core.Path.{_≡_, refl, sym, ap, subst, _∙_}
 use mathlib.Core.Bool.{Bool, true, false, _&&_}
-use mathlib.Core.List.{List, [], _∷_, _++_}
-use mathlib.Core.Logic.{_⊎_, inl, inr, ⊎-elim}
-use Prim.Native.Nat.{ℕ, zero, suc, _+_, _*_, max, _≤_, _<_}
+use mathlib.Core.List.{List, _∷_, _++_}
+use mathlib.Core.Logic.{inl, inr, ⊎-elim}
+use Prim.Native.Nat.{ℕ, zero, suc, _*_, max, _≤_, _<_}
 use native.Mathlib.Omega.{arith}
 use lib.ListN.{length}
-use Rattle.std.proofs.shelf.Tests.{both-ways, cases-eq, cases-lt, cond-both, and-parts, lt-ltb, not-from-false}
+use Rattle.std.proofs.shelf.Tests.{both-ways, cases-eq, cases-lt, cond-both, and-parts}
 use Rattle.std.proofs.shelf.Ways.{tells}
 use Rattle.rules.specs.Tests.{is-empty}
 use Rattle.rules.specs.Field.{Field, sound}
-use Rattle.rules.specs.Shuttle.{Shuttle, Fleet, put, at-home, arrived}
-use Rattle.rules.specs.Event.{Event, step, arrive, grants, arrives, does, who, becomes, happens, after}
+use Rattle.rules.specs.Shuttle.{Shuttle, Fleet, put, arrived}
+use Rattle.rules.specs.Event.{Event, step, grants, arrives, does, who, becomes, happens, after}
 use Rattle.rules.proofs.Tests.{empty-tells, empty-from}
 use Rattle.agents.specs.Kinds.{put as with-agent}
 use Rattle.agents.proofs.Tests.{false-from}
@@ -20,10 +20,10 @@ use Rattle.promise.specs.Promise.{Some-moves, Some-granted, All-home, sum-to, s
 use Rattle.promise.proofs.Events.{grants-tells}
 use Rattle.promise.proofs.GoingOn.{never-stuck}
 use Rattle.promise.proofs.Home.{less-left, ends-home}
-use Rattle.turns.specs.Tick.{is-due, come-to, all-come, counted, chosen, Turn, granted-to, choose, tick}
+use Rattle.turns.specs.Tick.{is-due, all-come, counted, chosen, granted-to, choose, tick}
 use Rattle.turns.specs.Bound.{Ticking}
 use Rattle.turns.specs.Home.{Any-tick, Arrivals-within, Home-in-time, ticks, Home-by-ticks}
-use Rattle.turns.proofs.Ticks.{due-come, Best, choice, Come-row, come-row, not-done, none-granted}
+use Rattle.turns.proofs.Ticks.{due-come, Best, choice, come-row, not-done, none-granted}
 use Rattle.turns.proofs.Bounds.{all-done-in-time}
 
 -- sums
@@ -39,7 +39,8 @@ unfolding sum-to
 sum-some m g zero l = absurd (omega arith)
 sum-some m g (suc n) l =
     let rest : 0 < sum-to m g n → (i : ℕ) × (i < n) × (0 < m (g i)) = sum-some m g n in
-    ⊎-elim (λ b. let (i, a, c) = rest b in (i, omega arith, c)) (λ (b : sum-to m g n ≤ 0). (n, omega arith, omega arith)) (cases-lt 0 (sum-to m g n))
+    ⊎-elim (λ b. let (i, a, c) = rest b in (i, omega arith, c)) (λ (b : sum-to m g n ≤ 0). (n, omega arith, omega arith))
+    (cases-lt 0 (sum-to m g n))
 
 pub sum-none : (m : Shuttle → ℕ) (g : Fleet) (n : ℕ) → sum-to m g n ≡ 0 → (i : ℕ) → i < n → m (g i) ≡ 0
 unfolding sum-to
@@ -56,7 +57,8 @@ others-stay f g e i ne =
     let s = becomes e (g (who e)) in cond-both (does f g e) (put g (who e) s) g (λ h. h i ≡ g i) (λ _. put-other g (who e) s i ne) (λ _. refl)
 
 -- the arrivals leave as many squares to go
-pub all-come-left : (f : Field) (g : Fleet) (marks : List ℕ) → sum-to squares-left (all-come f g marks) (f .shuttles) ≡ sum-to squares-left g (f .shuttles)
+pub all-come-left : (f : Field) (g : Fleet) (marks : List ℕ) → sum-to squares-left (all-come f g marks)
+    (f .shuttles) ≡ sum-to squares-left g (f .shuttles)
 unfolding squares-left arrived
 all-come-left f g marks = sum-same squares-left (all-come f g marks) g (f .shuttles) (λ i l. ⊎-elim
     (λ (t : (is-due marks i ≡ true) × (g i .moving ≡ true) × (all-come f g marks i ≡ arrived (g i))). ap squares-left (t .2))
@@ -117,12 +119,14 @@ module _ (f : Field) (es : List Event) (fleets : ℕ → Fleet) (marks : ℕ →
         let (rs, e) = come-reached f (fleets t) (marks t) (reached t) in
         let q = less-left f rs (whose t) (subst (λ x. grants f x (whose t) ≡ true) e h) in
         let a = all-come-left f (fleets t) (marks t) in
-        let b : left (suc t) ≡ sum-to squares-left (after f (step (whose t) ∷ rs)) (f .shuttles) = ap (λ x. sum-to squares-left x (f .shuttles))
-            (each t .made ∙ ap (λ x. happens f x (step (whose t))) e) in
+        let b : left (suc t) ≡ sum-to squares-left (after f (step (whose t) ∷ rs)) (f .shuttles) = ap
+        (λ x. sum-to squares-left x (f .shuttles))
+        (each t .made ∙ ap (λ x. happens f x (step (whose t))) e) in
         let c : sum-to squares-left (at-choice t) (f .shuttles) ≡ sum-to squares-left (after f rs) (f .shuttles) =
-            ap (λ x. sum-to squares-left x (f .shuttles)) e in
+        ap (λ x. sum-to squares-left x (f .shuttles)) e in
         omega arith)
-        (λ (h : (whose t ≡ f .shuttles) × ((i : ℕ) → i < f .shuttles → grants f (at-choice t) i ≡ false)). let z = h .0 in absurd (omega arith))
+        (λ (h : (whose t ≡ f .shuttles) × ((i : ℕ) → i < f .shuttles → grants f (at-choice t) i ≡ false)). let z = h .0 in absurd
+        (omega arith))
         (each t .right);
     as-much = λ t l. ap (λ x. sum-to squares-left x (f .shuttles)) (nobody-steps t l) ∙ all-come-left f (fleets t) (marks t);
     not-stuck = λ t l z.
@@ -152,7 +156,7 @@ module _ (f : Field) (es : List Event) (fleets : ℕ → Fleet) (marks : ℕ →
   home d c t h =
       let e : left 0 ≡ sum-to squares-left (after f es) (f .shuttles) = ap (λ x. sum-to squares-left x (f .shuttles)) start in
       let done = all-done-in-time (f .shuttles) left moves due whose d ticking c t
-          (subst (λ x. suc x * max d 1 ≤ t) (sym e) h) in
+      (subst (λ x. suc x * max d 1 ≤ t) (sym e) h) in
       let (rs, r) = reached t in
       subst (All-home f) (sym r) (ends-home f rs ok
       (λ i l. false-from _ (λ y. let s = grants-tells f (after f rs) i y .something-left in

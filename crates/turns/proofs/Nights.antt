@@ -1,27 +1,28 @@
 -- Nights: orders and ticks from one choice to the next, and so that nobody starves and each comes home.
 use mathlib.Core.Path.{_≡_, refl, sym, ap, subst, _∙_}
-use mathlib.Core.Bool.{Bool, true, false, not, cond, _&&_}
-use mathlib.Core.List.{List, [], _∷_, _++_}
+use mathlib.Core.Bool.{true, false, cond, _&&_}
+use mathlib.Core.List.{List, _∷_}
 use mathlib.Core.Logic.{_⊎_, inl, inr, ⊎-elim}
 use Prim.Native.Nat.{ℕ, zero, suc, _+_, _*_, _≤_, _<_}
 use native.Mathlib.Omega.{arith}
 use lib.Dec.{eqb}
 use lib.ListN.{length, getD, set}
-use Rattle.std.proofs.shelf.Tests.{both-ways, cases-bool, cases-eq, cases-lt, cond-true, cond-false, and-parts, eq-eqb, ne-eqb}
+use Rattle.std.proofs.shelf.Tests.{both-ways, cases-bool, cases-eq, cond-true, cond-false, eq-eqb, ne-eqb}
 use Rattle.std.proofs.shelf.Lists.{nil-from-length, length-set, getD-set-same, getD-set-other}
 use Rattle.std.proofs.shelf.Ways.{tells}
 use Rattle.rules.specs.Tests.{is-empty}
-use Rattle.rules.specs.Field.{Field, sound}
-use Rattle.rules.specs.Shuttle.{Shuttle, Fleet, put, at-home, ordered, stepped, arrived}
-use Rattle.rules.specs.Event.{Event, order, step, arrive, takes, grants, does, who, becomes, happens, after}
+use Rattle.rules.specs.Field.{Field}
+use Rattle.rules.specs.Shuttle.{Fleet, put, at-home, ordered, stepped, arrived}
+use Rattle.rules.specs.Event.{order, step, takes, grants, does, who, becomes, happens, after}
 use Rattle.agents.specs.Kinds.{put as with-agent}
 use Rattle.agents.proofs.Fleets.{put-here}
 use Rattle.rules.proofs.Tests.{empty-tells}
 use Rattle.promise.proofs.Places.{steps, idle-home}
 use Rattle.promise.proofs.Events.{takes-tells, grants-tells, Good, good-after}
 use Rattle.promise.proofs.GoingOn.{done}
-use Rattle.turns.specs.Tick.{is-due, all-come, waits, one-more, counted-to, counted, chosen, Turn, granted-to, choose, tick}
-use Rattle.turns.specs.Night.{give, give-to, all-given, next, night}
+use Rattle.promise.proofs.Home.{same-shuttle}
+use Rattle.turns.specs.Tick.{is-due, all-come, waits, one-more, counted, chosen, Turn, granted-to, choose, tick}
+use Rattle.turns.specs.Night.{give, give-to, all-given, next, night, Nights-are-rows}
 use Rattle.turns.specs.Parts.{At-most-two}
 use Rattle.turns.specs.Waiting.{Any-night, most-ticks, Nobody-starves, Each-comes-home}
 use Rattle.turns.proofs.Ticks.{due-come, counted-length, counts-all, Best, choice, not-done}
@@ -29,11 +30,8 @@ use Rattle.turns.proofs.Bounds.{due-soon}
 use Rattle.turns.proofs.Home.{others-stay, all-come-moves, Reached, come-reached}
 use Rattle.turns.proofs.Parts.{Placed-own, placed-own}
 use Rattle.turns.proofs.Choices.{Choices, waits-tells}
-use Rattle.turns.proofs.Patience.{gets-step}
-use Rattle.turns.proofs.Comings.{done as comes-done}
-
-same-shuttle : (s t : Shuttle) → s .at ≡ t .at → s .moving ≡ t .moving → s .behind ≡ t .behind → s .route ≡ t .route → s ≡ t
-same-shuttle s t a m b r k = record { at = a k; moving = m k; behind = b k; route = r k }
+use Rattle.turns.proofs.Serving.{gets-step}
+use Rattle.turns.proofs.ComingHome.{done as comes-done}
 
 -- an order is taken by one that stands with nothing left, and changes nothing else
 order-makes : (f : Field) (g : Fleet) (i : ℕ) (r : List ℕ) (j : ℕ) →
@@ -48,7 +46,8 @@ order-makes f g i r j = ⊎-elim
       q,
       ap (λ x. g x .moving) q ∙ t .stands,
       ap (λ x. is-empty (g x .route)) q ∙ t .nothing-left,
-      ap (λ x. x j) (done f g (order i r) e) ∙ ap (put g i (ordered (g i) r)) q ∙ put-here g i (ordered (g i) r) ∙ ap (λ x. ordered (g x) r) (sym q),
+      ap (λ x. x j) (done f g (order i r) e) ∙ ap (put g i (ordered (g i) r)) q ∙ put-here g i (ordered (g i) r) ∙ ap
+          (λ x. ordered (g x) r) (sym q),
     ))
     (λ ne. inr (others-stay f g (order i r) j ne)) (cases-eq j i))
     (λ (e : takes f g i r ≡ false). inr (ap (λ x. x j) (not-done f g (order i r) e)))
@@ -67,7 +66,7 @@ gives f g routes zero j = inr refl
 gives f g routes (suc k) j =
     let g′ = give-to f g routes k in
     let before : ((j < k) × (g j .moving ≡ false) × (is-empty (g j .route) ≡ true) × (g′ j ≡ ordered (g j) (routes j))) ⊎ (g′ j ≡ g j) =
-        gives f g routes k j in
+    gives f g routes k j in
     ⊎-elim
     (λ (e : is-empty (routes k) ≡ true).
     let z : give-to f g routes (suc k) ≡ g′ = cond-true _ g′ (happens f g′ (order k (routes k))) e in
@@ -79,7 +78,8 @@ gives f g routes (suc k) j =
     (λ (e : is-empty (routes k) ≡ false).
     let z : give-to f g routes (suc k) ≡ happens f g′ (order k (routes k)) = cond-false _ g′ (happens f g′ (order k (routes k))) e in
     ⊎-elim
-    (λ (o : (j ≡ k) × (g′ j .moving ≡ false) × (is-empty (g′ j .route) ≡ true) × (happens f g′ (order k (routes k)) j ≡ ordered (g′ j) (routes k))).
+    (λ (o : (j ≡ k) × (g′ j .moving ≡ false) × (is-empty (g′ j .route) ≡ true) ×
+    (happens f g′ (order k (routes k)) j ≡ ordered (g′ j) (routes k))).
     let q = o .0 in
     ⊎-elim
     (λ (b : (j < k) × (g j .moving ≡ false) × (is-empty (g j .route) ≡ true) × (g′ j ≡ ordered (g j) (routes j))). absurd (omega arith))
@@ -101,7 +101,8 @@ gives f g routes (suc k) j =
 given : (f : Field) (g : Fleet) (routes : ℕ → List ℕ) (j : ℕ) → Given g routes (all-given f g routes) j
 unfolding all-given
 given f g routes j = ⊎-elim
-    (λ (b : (j < f .shuttles) × (g j .moving ≡ false) × (is-empty (g j .route) ≡ true) × (give-to f g routes (f .shuttles) j ≡ ordered (g j) (routes j))).
+    (λ (b : (j < f .shuttles) × (g j .moving ≡ false) × (is-empty (g j .route) ≡ true) ×
+    (give-to f g routes (f .shuttles) j ≡ ordered (g j) (routes j))).
     inl (b .1, b .2, b .3)) inr (gives f g routes (f .shuttles) j)
 
 give-reached : (f : Field) (g : Fleet) (routes : ℕ → List ℕ) (k : ℕ) → Reached f g → Reached f (give-to f g routes k)
@@ -113,6 +114,19 @@ give-reached f g routes (suc k) r =
     ⊎-elim (λ z. (rs, cond-true _ g′ (happens f g′ (order k (routes k))) z ∙ e))
     (λ z. (order k (routes k) ∷ rs, cond-false _ g′ (happens f g′ (order k (routes k))) z ∙ ap (λ x. happens f x (order k (routes k))) e))
     (cases-bool (is-empty (routes k)))
+
+-- a night is a row of events, so that all that is promised of rows holds of it
+next-reached : (f : Field) (s : Turn) (routes : ℕ → List ℕ) (marks : List ℕ) → Reached f (s .fleet) → Reached f (next f s routes marks .fleet)
+unfolding next tick choose granted-to all-given after
+next-reached f s routes marks r =
+    let (rs, e) = come-reached f (all-given f (s .fleet) routes) marks (give-reached f (s .fleet) routes (f .shuttles) r) in
+    let w = next f s routes marks .whose in (step w ∷ rs, ap (λ x. happens f x (step w)) e)
+
+pub nights-are-rows : Nights-are-rows
+unfolding night
+nights-are-rows f es s orders marks zero b = (es, b)
+nights-are-rows f es s orders marks (suc t) b =
+    next-reached f (night f s orders marks t) (orders t) (marks t) (nights-are-rows f es s orders marks t b)
 
 -- one that moves or has something left takes no order, and one that stands takes no arrival
 same-given : (f : Field) (g : Fleet) (routes : ℕ → List ℕ) (j : ℕ) → (g j .moving ≡ true) ⊎ (is-empty (g j .route) ≡ false) →
@@ -127,7 +141,8 @@ same-come f g marks i l m = ⊎-elim
     (λ (t : ((is-due marks i && g i .moving) ≡ false) × (all-come f g marks i ≡ g i)). t .1)
     (due-come f g marks i l)
 
-module _ (f : Field) (s : Turn) (orders : ℕ → ℕ → List ℕ) (marks : ℕ → List ℕ) (d : ℕ) (two : At-most-two f) (nn : Any-night f s orders marks d) where
+module _ (f : Field) (s : Turn) (orders : ℕ → ℕ → List ℕ) (marks : ℕ → List ℕ) (d : ℕ) (two : At-most-two f)
+    (nn : Any-night f s orders marks d) where
   abbrev now : ℕ → Turn
   now t = night f s orders marks t
 
@@ -160,18 +175,10 @@ module _ (f : Field) (s : Turn) (orders : ℕ → ℕ → List ℕ) (marks : ℕ
       let e = ap length (is-waits t) ∙ length-set (waits-at t) (whose t) 0 ∙ counted-length (fleet-at t) (now t .waits) (f .shuttles) in
       let q = long t in omega arith
 
-  come-there : (t : ℕ) → Reached f (now t .fleet) → Reached f (fleet-at t)
-  unfolding all-given
-  come-there t r = come-reached f (all-given f (now t .fleet) (orders t)) (marks t) (give-reached f (now t .fleet) (orders t) (f .shuttles) r)
-
-  there : (t : ℕ) → Reached f (now t .fleet)
-  unfolding night after
-  there zero = (nn .es, nn .begins)
-  there (suc t) =
-      let (rs, e) = come-there t (there t) in (step (whose t) ∷ rs, is-fleet t ∙ ap (λ x. happens f x (step (whose t))) e)
-
   reached : (t : ℕ) → Reached f (fleet-at t)
-  reached t = come-there t (there t)
+  unfolding all-given
+  reached t = come-reached f (all-given f (now t .fleet) (orders t)) (marks t)
+      (give-reached f (now t .fleet) (orders t) (f .shuttles) (nights-are-rows f (nn .es) s orders marks t (nn .begins)))
 
   Chosen : ℕ → Type 0
   Chosen t = Best f (fleet-at t) (waits-at t) (f .shuttles) (whose t) ⊎
@@ -180,12 +187,14 @@ module _ (f : Field) (s : Turn) (orders : ℕ → ℕ → List ℕ) (marks : ℕ
   the-choice : (t : ℕ) → Chosen t
   unfolding Chosen
   the-choice t = subst (λ x. Best f (fleet-at t) (waits-at t) (f .shuttles) x ⊎
-      ((x ≡ f .shuttles) × ((i : ℕ) → i < f .shuttles → grants f (fleet-at t) i ≡ false))) (sym (is-whose t)) (choice f (fleet-at t) (waits-at t))
+      ((x ≡ f .shuttles) × ((i : ℕ) → i < f .shuttles → grants f (fleet-at t) i ≡ false))) (sym (is-whose t))
+      (choice f (fleet-at t) (waits-at t))
 
   granted : (t : ℕ) → whose t < f .shuttles → grants f (fleet-at t) (whose t) ≡ true
   unfolding Chosen
   granted t l = ⊎-elim (λ (b : Best f (fleet-at t) (waits-at t) (f .shuttles) (whose t)). b .granted)
-      (λ (b : (whose t ≡ f .shuttles) × ((i : ℕ) → i < f .shuttles → grants f (fleet-at t) i ≡ false)). let e = b .0 in absurd (omega arith)) (the-choice t)
+      (λ (b : (whose t ≡ f .shuttles) × ((i : ℕ) → i < f .shuttles → grants f (fleet-at t) i ≡ false)). let e = b .0 in absurd
+      (omega arith)) (the-choice t)
 
   -- one that is not chosen is after the tick as it was at the choice
   kept : (t i : ℕ) → (whose t ≡ i → ⊥) → now (suc t) .fleet i ≡ fleet-at t i
@@ -202,13 +211,17 @@ module _ (f : Field) (s : Turn) (orders : ℕ → ℕ → List ℕ) (marks : ℕ
       (whose t ≡ i) ⊎ ((now t .fleet i .moving ≡ true) × (is-due (marks t) i ≡ false))
   unfolding ordered
   moves-on t i l m = ⊎-elim inl
-      (λ ne. let (a, b) = all-come-moves f (all-given f (now t .fleet) (orders t)) (marks t) i l (ap (λ x. x .moving) (sym (kept t i ne)) ∙ m) in
-      inr (⊎-elim
-      (λ (g : (now t .fleet i .moving ≡ false) × (is-empty (now t .fleet i .route) ≡ true) ×
-      (all-given f (now t .fleet) (orders t) i ≡ ordered (now t .fleet i) (orders t i))).
-      absurd (both-ways _ (ap (λ x. x .moving) (g .2)) a))
-      (λ g. ap (λ x. x .moving) (sym g) ∙ a)
-      (given f (now t .fleet) (orders t) i), b))
+      (λ ne. let (a, b) = all-come-moves f (all-given f (now t .fleet) (orders t)) (marks t) i l
+      (ap (λ x. x .moving) (sym (kept t i ne)) ∙ m) in
+      inr (
+        ⊎-elim
+            (λ (g : (now t .fleet i .moving ≡ false) × (is-empty (now t .fleet i .route) ≡ true) ×
+            (all-given f (now t .fleet) (orders t) i ≡ ordered (now t .fleet i) (orders t i))).
+            absurd (both-ways _ (ap (λ x. x .moving) (g .2)) a))
+            (λ g. ap (λ x. x .moving) (sym g) ∙ a)
+            (given f (now t .fleet) (orders t) i),
+        b,
+      ))
       (cases-eq (whose t) i)
 
   -- from after a tick to the next choice: one that moves or has something left takes no order, and comes if it moves and is due
@@ -232,11 +245,12 @@ module _ (f : Field) (s : Turn) (orders : ℕ → ℕ → List ℕ) (marks : ℕ
       let i = whose t in
       let h = granted t l in
       let e : now (suc t) .fleet i ≡ stepped (fleet-at t i) = ap (λ x. x i) (is-fleet t ∙ done f (fleet-at t) (step i) h)
-          ∙ put-here (fleet-at t) i (stepped (fleet-at t i)) in
+      ∙ put-here (fleet-at t) i (stepped (fleet-at t i)) in
       let m = ap (λ x. x .moving) e ∙ steps (fleet-at t i) (grants-tells f (fleet-at t) i h .something-left) .moves in
       ⊎-elim
       (λ (b : (now (suc t) .fleet i .moving ≡ true) × (fleet-at (suc t) i ≡ arrived (now (suc t) .fleet i))). inr (b .1 ∙ ap arrived e))
-      (λ (b : ((is-due (marks (suc t)) i && now (suc t) .fleet i .moving) ≡ false) × (fleet-at (suc t) i ≡ now (suc t) .fleet i)). inl (b .1 ∙ e))
+      (λ (b : ((is-due (marks (suc t)) i && now (suc t) .fleet i .moving) ≡ false) × (fleet-at (suc t) i ≡ now (suc t) .fleet i)). inl
+      (b .1 ∙ e))
       (turned (suc t) i l (inl m))
 
   driving : (t i : ℕ) → i < f .shuttles → fleet-at t i .moving ≡ true →
@@ -266,7 +280,8 @@ module _ (f : Field) (s : Turn) (orders : ℕ → ℕ → List ℕ) (marks : ℕ
   idling t i l v u =
       let e = kept t i (not-chosen t i l (inr u)) in
       let g = all-given f (now (suc t) .fleet) (orders (suc t)) in
-      let (a, b) = still (now (suc t) .fleet) g (orders (suc t)) (ap (λ x. x .moving) e ∙ v) (given f (now (suc t) .fleet) (orders (suc t)) i) in
+      let (a, b) = still (now (suc t) .fleet) g (orders (suc t)) (ap (λ x. x .moving) e ∙ v)
+      (given f (now (suc t) .fleet) (orders (suc t)) i) in
       let c = same-come f g (marks (suc t)) i l b in
       (ap (λ x. x .at) c ∙ a ∙ ap (λ x. x .at) e, ap (λ x. x .moving) c ∙ b)
     where
@@ -286,7 +301,8 @@ module _ (f : Field) (s : Turn) (orders : ℕ → ℕ → List ℕ) (marks : ℕ
       ∙ ap (one-more (fleet-at (suc t) i)) (ap (λ x. getD x i 0) (is-waits t) ∙ ⊎-elim
       (λ (z : i ≡ whose t). ap (λ x. getD (set (waits-at t) x 0) i 0) (sym z) ∙ getD-set-same (waits-at t) i 0 0 (omega arith)
       ∙ sym (cond-true (eqb i (whose t)) 0 (getD (waits-at t) i 0) (eq-eqb i (whose t) z)))
-      (λ ne. getD-set-other (waits-at t) (whose t) i 0 0 ne ∙ sym (cond-false (eqb i (whose t)) 0 (getD (waits-at t) i 0) (ne-eqb i (whose t) ne)))
+      (λ ne. getD-set-other (waits-at t) (whose t) i 0 0 ne ∙ sym
+      (cond-false (eqb i (whose t)) 0 (getD (waits-at t) i 0) (ne-eqb i (whose t) ne)))
       (cases-eq i (whose t)))
 
   soon : (t i : ℕ) → i < f .shuttles → fleet-at t i .moving ≡ true → (k : ℕ) × (k < d) × (is-due (marks (t + suc k)) i ≡ true)
@@ -294,11 +310,11 @@ module _ (f : Field) (s : Turn) (orders : ℕ → ℕ → List ℕ) (marks : ℕ
   soon t i l v =
       let (a, b) = all-come-moves f (all-given f (now t .fleet) (orders t)) (marks t) i l v in
       let m : now t .fleet i .moving ≡ true = ⊎-elim
-          (λ (g : (now t .fleet i .moving ≡ false) × (is-empty (now t .fleet i .route) ≡ true) ×
-          (all-given f (now t .fleet) (orders t) i ≡ ordered (now t .fleet i) (orders t i))).
-          absurd (both-ways _ (ap (λ x. x .moving) (g .2)) a))
-          (λ g. ap (λ x. x .moving) (sym g) ∙ a)
-          (given f (now t .fleet) (orders t) i) in
+      (λ (g : (now t .fleet i .moving ≡ false) × (is-empty (now t .fleet i .route) ≡ true) ×
+      (all-given f (now t .fleet) (orders t) i ≡ ordered (now t .fleet i) (orders t i))).
+      absurd (both-ways _ (ap (λ x. x .moving) (g .2)) a))
+      (λ g. ap (λ x. x .moving) (sym g) ∙ a)
+      (given f (now t .fleet) (orders t) i) in
       after-now b (due-soon (f .shuttles) (λ t i. now t .fleet i .moving) (λ t i. is-due (marks t) i) whose d moves-on (nn .within) t i l m)
     where
       after-now : is-due (marks t) i ≡ false → (k : ℕ) × (k < d) × (is-due (marks (t + k)) i ≡ true) →
@@ -321,7 +337,8 @@ module _ (f : Field) (s : Turn) (orders : ℕ → ℕ → List ℕ) (marks : ℕ
     driving = driving;
     waiting = waiting;
     idling = idling;
-    waited = λ t i l v. let e = counts-all f (fleet-at t) (now t .waits) i l (long t) ∙ cond-true _ (suc (getD (now t .waits) i 0)) 0 v in omega arith;
+    waited = λ t i l v. let e = counts-all f (fleet-at t) (now t .waits) i l (long t) ∙ cond-true _
+        (suc (getD (now t .waits) i 0)) 0 v in omega arith;
     not-waited = λ t i l v. counts-all f (fleet-at t) (now t .waits) i l (long t) ∙ cond-false _ (suc (getD (now t .waits) i 0)) 0 v;
     counting = counting;
     soon = soon;
@@ -344,12 +361,11 @@ module _ (f : Field) (s : Turn) (orders : ℕ → ℕ → List ℕ) (marks : ℕ
   home t i l =
       let short = the-choices .own t i l .short in
       let (k, x, y, z) = comes-done f d fleet-at (λ t i. getD (waits-at t) i 0) whose (λ t i. is-due (marks t) i)
-          the-choices i l (most-ticks f d) (λ t v. served t i l v) 256 t short in
+      the-choices i l (most-ticks f d) (λ t v. served t i l v) 256 t short in
       let e = kept (t + k) i (not-chosen (t + k) i l (inr z)) in
       let p = the-choices .good (t + k) .each i l in
       let at = idle-home p z in
-      let j : suc (t + k) ≡ t + suc k = omega arith in
-      (
+      let j : suc (t + k) ≡ t + suc k = omega arith in (
         suc k,
         omega arith,
         subst (λ u. now u .fleet i ≡ at-home f i) j

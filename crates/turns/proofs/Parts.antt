@@ -1,33 +1,31 @@
 -- Parts of a field: where a shuttle can be, who can hold a square of its route, and that it is granted its step where nobody does.
 use mathlib.Core.Path.{_≡_, refl, sym, ap, subst, _∙_}
-use mathlib.Core.Bool.{Bool, true, false, not, cond, _&&_, _||_}
+use mathlib.Core.Bool.{Bool, true, false}
 use mathlib.Core.List.{List, [], _∷_}
 use mathlib.Core.Logic.{_⊎_, inl, inr, ⊎-elim}
-use Prim.Native.Nat.{ℕ, suc, _+_, _*_, _≤_, _<_}
+use Prim.Native.Nat.{ℕ, _≤_, _<_}
 use native.Mathlib.Omega.{arith}
-use lib.Dec.{eqb, ltb}
+use lib.Dec.{eqb}
 use lib.ListN.{length, getD}
-use Rattle.std.proofs.shelf.Tests.{both-ways, cases-bool, cases-eq, cond-both, and-parts, and-from, or-cases, or-left, or-right, not-true, not-from-false}
-use Rattle.std.proofs.shelf.Tests.{eqb-true, eq-eqb, ltb-true, lt-ltb}
+use Rattle.std.proofs.shelf.Tests.{both-ways, cond-both, and-parts, and-from, or-cases, or-left, or-right, not-true}
+use Rattle.std.proofs.shelf.Tests.{eqb-true}
 use Rattle.std.proofs.shelf.Ways.{tells}
-use Rattle.rules.specs.Tests.{any-to, among, is-empty}
-use Rattle.rules.specs.Field.{Field, is-bay-to, is-bay, free-square, sound, beside}
-use Rattle.rules.specs.Route.{step-ok, route-ok}
-use Rattle.rules.specs.Shuttle.{Shuttle, Fleet, holds, put, at-home, ordered, next-square, stepped-to, stepped, arrived}
+use Rattle.rules.specs.Tests.{among, is-empty}
+use Rattle.rules.specs.Field.{Field, is-bay, free-square, sound, beside}
+use Rattle.rules.specs.Route.{route-ok}
+use Rattle.rules.specs.Shuttle.{Shuttle, Fleet, holds, put, at-home, ordered, next-square, stepped, arrived}
 use Rattle.rules.specs.Event.{Event, order, step, arrive, takes, grants, arrives, does, who, becomes, happens, after}
-use Rattle.rules.proofs.Tests.{any-to-from, empty-tells}
-use Rattle.agents.specs.Numbers.{among as is-in, meets, Within}
+use Rattle.agents.specs.Numbers.{among as is-in}
 use Rattle.agents.specs.Going.{CanGo, goes}
-use Rattle.agents.specs.Kinds.{put as with-agent, blocks, Free-for}
+use Rattle.agents.specs.Kinds.{put as with-agent, Free-for}
 use Rattle.agents.proofs.Tests.{false-from, meets-tells}
 use Rattle.agents.proofs.Fleets.{put-each}
-use Rattle.agents.proofs.Going.{blocker-goes}
 use Rattle.agents.proofs.Grants.{may-free}
 use Rattle.promise.specs.Promise.{Placed}
 use Rattle.promise.specs.Rule.{shuttles}
-use Rattle.promise.proofs.Shuttles.{blocks-is, holds-is}
-use Rattle.promise.proofs.Places.{May-step, route-tells, bays-differ, route-avoids, steps, idle-home}
-use Rattle.promise.proofs.Events.{takes-tells, grants-tells, grants-from, arrives-tells, Good, good-after}
+use Rattle.promise.proofs.Shuttles.{among-is, holds-is}
+use Rattle.promise.proofs.Places.{bay-is, route-tells, steps}
+use Rattle.promise.proofs.Events.{takes-tells, grants-tells, grants-from, Good, good-after}
 use Rattle.turns.specs.Parts.{open-square, linked, link, at-bay, parts, touches}
 use Rattle.turns.proofs.Finding.{one-number, touches-from}
 
@@ -39,13 +37,9 @@ open-is : (f : Field) (c : ℕ) → open-square f c ≡ true → (free-square f 
 unfolding open-square
 open-is f c h = let (a, b) = and-parts _ _ h in (a, not-true _ b)
 
-bay-is : (f : Field) (j c : ℕ) → j < f .shuttles → c ≡ f .bay j → is-bay f c ≡ true
-unfolding is-bay is-bay-to
-bay-is f j c l e = any-to-from (λ i. eqb (f .bay i) c) (f .shuttles) j l (eq-eqb _ _ (sym e))
-
 -- an open square is nobody's bay
 pub not-bay : (f : Field) (j c : ℕ) → j < f .shuttles → open-square f c ≡ true → c ≡ f .bay j → ⊥
-not-bay f j c l o e = both-ways _ (open-is f c o .1) (bay-is f j c l e)
+not-bay f j c l o e = both-ways _ (open-is f c o .1) (bay-is f j c l (sym e))
 
 -- where a step leads: to an open square, or to the bay at the very end
 pub next-is : (f : Field) (i c d : ℕ) (ds : List ℕ) → route-ok f i c (d ∷ ds) ≡ true →
@@ -66,11 +60,15 @@ module _ (f : Field) where
   step-own i c d ds h m =
       let s = route-tells f i c d ds h in
       ⊎-elim
-      (λ (o : open-square f d ≡ true). inr (o, ⊎-elim
-      (λ (e : c ≡ f .bay i). touches-from f i d (getD (parts f) d 0) (and-from _ _ o (subst (λ x. beside f x d ≡ true) e (s .next-to))) refl)
-      (λ (q : (open-square f c ≡ true) × (touches f (parts f) i (getD (parts f) c 0) ≡ true)).
-      subst (λ p. touches f (parts f) i p ≡ true) (one-part-of c d (q .0) o (s .next-to)) (q .1))
-      m))
+      (λ (o : open-square f d ≡ true). inr (
+        o,
+        ⊎-elim
+            (λ (e : c ≡ f .bay i). touches-from f i d (getD (parts f) d 0)
+            (and-from _ _ o (subst (λ x. beside f x d ≡ true) e (s .next-to))) refl)
+            (λ (q : (open-square f c ≡ true) × (touches f (parts f) i (getD (parts f) c 0) ≡ true)).
+            subst (λ p. touches f (parts f) i p ≡ true) (one-part-of c d (q .0) o (s .next-to)) (q .1))
+            m,
+      ))
       (λ (o : (d ≡ f .bay i) × (is-empty ds ≡ true)). inl (o .0))
       (next-is f i c d ds h)
 
@@ -81,8 +79,9 @@ module _ (f : Field) where
   one-part i c [] o h x a = absurd (both-ways false refl a)
   one-part i c (d ∷ ds) o h x a =
       let s = route-tells f i c d ds h in
-      let rest : open-square f d ≡ true → among x ds ≡ true → (x ≡ f .bay i) ⊎ ((open-square f x ≡ true) × (getD (parts f) x 0 ≡ getD (parts f) d 0)) = λ o′ a′.
-          one-part i d ds o′ (s .after) x a′ in
+      let rest : open-square f d ≡ true → among x ds ≡ true → (x ≡ f .bay i) ⊎
+      ((open-square f x ≡ true) × (getD (parts f) x 0 ≡ getD (parts f) d 0)) = λ o′ a′.
+      one-part i d ds o′ (s .after) x a′ in
       ⊎-elim
       (λ (o′ : open-square f d ≡ true).
       let e : getD (parts f) d 0 ≡ getD (parts f) c 0 = sym (one-part-of c d o o′ (s .next-to)) in
@@ -90,7 +89,8 @@ module _ (f : Field) where
       (λ q. let z = eqb-true x d q in inr (subst (λ y. open-square f y ≡ true) (sym z) o′, ap (λ y. getD (parts f) y 0) z ∙ e))
       (λ q. ⊎-elim inl (λ (b : (open-square f x ≡ true) × (getD (parts f) x 0 ≡ getD (parts f) d 0)). inr (b .0, b .1 ∙ e)) (rest o′ q))
       (or-cases _ _ a))
-      (λ (b : (d ≡ f .bay i) × (is-empty ds ≡ true)). ⊎-elim (λ q. inl (eqb-true x d q ∙ b .0)) (λ q. absurd (none ds (b .1) q)) (or-cases _ _ a))
+      (λ (b : (d ≡ f .bay i) × (is-empty ds ≡ true)). ⊎-elim (λ q. inl (eqb-true x d q ∙ b .0)) (λ q. absurd (none ds (b .1) q))
+      (or-cases _ _ a))
       (next-is f i c d ds h)
     where
       none : (ds : List ℕ) → is-empty ds ≡ true → among x ds ≡ true → ⊥
@@ -129,7 +129,8 @@ module _ (f : Field) where
       let len = ap length (h .left) in
       let o = q .short in
       record {
-        here = step-own i (s .at) (stepped s .at) (stepped s .route) (subst (λ r. route-ok f i (s .at) r ≡ true) (h .left) (p .on-route)) (q .here);
+        here = step-own i (s .at) (stepped s .at) (stepped s .route) (subst (λ r. route-ok f i (s .at) r ≡ true) (h .left) (p .on-route))
+            (q .here);
         from = subst (Own f i) (sym (h .from)) (q .here);
         short = omega arith;
       }
@@ -148,7 +149,8 @@ module _ (f : Field) where
       let before : (i : ℕ) → i < f .shuttles → Placed-own i (g i) = placed-own ok es in
       cond-both (grants f g j) (put g j (stepped (g j))) g (λ h. Placed-own i (h i))
       (λ e. let t = grants-tells f g j e in put-each (λ a s. a < f .shuttles → Placed-own a s) g j (stepped (g j))
-      (λ m. placed-own-stepped j (g j) (good-after f ok es .each j m) (t .something-left) (before j m)) (λ a _. before a) i l) (λ _. before i l)
+      (λ m. placed-own-stepped j (g j) (good-after f ok es .each j m) (t .something-left) (before j m)) (λ a _. before a) i l)
+      (λ _. before i l)
   placed-own ok (arrive j ∷ es) i l =
       let g = after f es in
       let before : (i : ℕ) → i < f .shuttles → Placed-own i (g i) = placed-own ok es in
@@ -171,11 +173,6 @@ stands-holds s c m h = grind (arith, tells)
 abbrev pub Clear : Field → Fleet → ℕ → Type 0
 Clear f g i = (j : ℕ) → j < f .shuttles → (i ≡ j → ⊥) → (c : ℕ) → among c (g i .route) ≡ true → holds (g j) c ≡ false
 
-among-is : (x : ℕ) (ys : List ℕ) → is-in x ys ≡ among x ys
-unfolding among is-in
-among-is x [] = refl
-among-is x (y ∷ ys) = ap (λ t. eqb x y || t) (among-is x ys)
-
 -- then its step is granted
 pub clear-granted : (f : Field) (g : Fleet) → Good f g → (i : ℕ) → i < f .shuttles → g i .moving ≡ false → is-empty (g i .route) ≡ false →
     Clear f g i → grants f g i ≡ true
@@ -184,16 +181,18 @@ clear-granted f g p i l m e q =
     let n = f .shuttles in
     let h = steps (g i) e in
     let free : (cs : List ℕ) → ((c : ℕ) → is-in c cs ≡ true → among c (g i .route) ≡ true) → Free-for shuttles n g i cs = λ cs sub j b ne.
-        false-from _ (λ v. let (c, x, y) = meets-tells (shuttles .held (g j)) cs v in
-        both-ways _ (q j b ne c (sub c y)) (sym (holds-is (g j) c) ∙ x)) in
+    false-from _ (λ v. let (c, x, y) = meets-tells (shuttles .held (g j)) cs v in
+    both-ways _ (q j b ne c (sub c y)) (sym (holds-is (g j) c) ∙ x)) in
     grants-from f g i (record {
       there = l;
       stands = m;
       something-left = e;
       granted = may-free shuttles n g i (next-square (g i .route) ∷ []) (stepped (g i))
           (λ j b c z. or-left-in c (g j) z) (p .all-go) l
-          (free (next-square (g i .route) ∷ []) (λ c z. subst (λ r. among c r ≡ true) (sym (h .left)) (let t = h .to in grind (arith, tells))))
-          (free (stepped (g i) .route) (λ c z. subst (λ r. among c r ≡ true) (sym (h .left)) (or-right _ _ (sym (among-is c (stepped (g i) .route)) ∙ z))))
+          (free (next-square (g i .route) ∷ []) (λ c z. subst (λ r. among c r ≡ true) (sym (h .left))
+          (let t = h .to in grind (arith, tells))))
+          (free (stepped (g i) .route) (λ c z. subst (λ r. among c r ≡ true) (sym (h .left))
+          (or-right _ _ (sym (among-is c (stepped (g i) .route)) ∙ z))))
           (λ k b. absurd (omega arith));
     })
   where
@@ -201,5 +200,6 @@ clear-granted f g p i l m e q =
     or-left-in c s z = let t : eqb c (s .at) ≡ true = grind (arith, tells) in or-left _ _ t
 
 -- no two that can go block each other
-pub no-pair : {n : ℕ} {w : ℕ → ℕ → Bool} {k : ℕ → Bool} {i : ℕ} → CanGo n w k i → (j : ℕ) → j < n → (i ≡ j → ⊥) → w i j ≡ true → w j i ≡ true → ⊥
+pub no-pair : {n : ℕ} {w : ℕ → ℕ → Bool} {k : ℕ → Bool} {i : ℕ} → CanGo n w k i → (j : ℕ) → j < n → (i ≡ j → ⊥) → w i j ≡ true →
+    w j i ≡ true → ⊥
 no-pair (goes i l c b) j m ne e e′ = no-pair (b j m ne e) i l (λ q. ne (sym q)) e′ e

@@ -102,8 +102,8 @@ module _ (f : Field) (ok : sound f ≡ true) (two : At-most-two f) (d : ℕ) (h 
     alone : ((t : ℕ) → h t a ≡ s → Clear f (h t) a) → (t : ℕ) → h t a ≡ s → Served (f .shuttles) t
     alone q t e =
         let (k, x, y, z) = turn-comes (f .shuttles) w c a l (λ t. h t a ≡ s) (λ _. ⊥) grow again (λ t e. clear-longest t e (q t e))
-            (λ t e. r .waited t a l (waits-a t e))
-            (λ t e. ⊎-elim inl (λ ne. let e′ = stays t e ne in inr (inr (e′, longer t a l ne (waits-a (suc t) e′)))) (cases-eq (c t) a)) t e in
+        (λ t e. r .waited t a l (waits-a t e))
+        (λ t e. ⊎-elim inl (λ ne. let e′ = stays t e ne in inr (inr (e′, longer t a l ne (waits-a (suc t) e′)))) (cases-eq (c t) a)) t e in
         (k, x, y, ⊎-elim (λ v. v) (λ (v : ⊥). absurd v) z)
 
     -- the squares that a has left are its bay or in one part p, which another, b, touches too, and nobody else
@@ -154,12 +154,14 @@ module _ (f : Field) (ok : sound f ≡ true) (two : At-most-two f) (d : ℕ) (h 
       one-goes t e v u = ⊎-elim
           (λ (i : among (h t b .at) (s .route) ≡ true).
           let (k, x, y, z) = turn-comes (f .shuttles) w c b m (Pair o) (λ t. c t ≡ a) grow again
-              (λ t j. r .longest t b m (clear-granted f (h t) (r .good t) b m (b-stands t j) (b-left t j)
-              (b-clear t (j .0) (b-stands t j) (ap (λ q. among (q .at) (s .route)) (j .1) ∙ i))))
-              (λ t j. r .waited t b m (waits-from (h t b) (b-stands t j) (b-left t j)))
-              (λ t j. ⊎-elim inl (λ nb. ⊎-elim (λ z. inr (inl z)) (λ na. inr (inr (on t j na nb,
-              longer t b m nb (waits-from (h (suc t) b) (b-stands (suc t) (on t j na nb)) (b-left (suc t) (on t j na nb)))))) (cases-eq (c t) a)) (cases-eq (c t) b))
-              t (e, refl) in
+          (λ t j. r .longest t b m (clear-granted f (h t) (r .good t) b m (b-stands t j) (b-left t j)
+          (b-clear t (j .0) (b-stands t j) (ap (λ q. among (q .at) (s .route)) (j .1) ∙ i))))
+          (λ t j. r .waited t b m (waits-from (h t b) (b-stands t j) (b-left t j)))
+          (λ t j. ⊎-elim inl (λ nb. ⊎-elim (λ z. inr (inl z)) (λ na. inr (inr (
+            on t j na nb,
+            longer t b m nb (waits-from (h (suc t) b) (b-stands (suc t) (on t j na nb)) (b-left (suc t) (on t j na nb))),
+          ))) (cases-eq (c t) a)) (cases-eq (c t) b))
+          t (e, refl) in
           (k, x, y, ⊎-elim inr inl z))
           (λ (i : among (h t b .at) (s .route) ≡ false).
           turn-comes (f .shuttles) w c a l (Pair o) (λ t. c t ≡ b) grow again
@@ -193,8 +195,8 @@ module _ (f : Field) (ok : sound f ≡ true) (two : At-most-two f) (d : ℕ) (h 
           let z = r .not-waited t b m (waits-not (h t b) u) in
           let y = r .waited t a l (waits-a t e) in
           let (k, x, j, q) = turn-comes (f .shuttles) w c a l Behind (λ _. ⊥) grow again first (λ t j. r .waited t a l (waits-a t (j .0)))
-              (λ t j. ⊎-elim inl (λ na. let j′ = on t j na in inr (inr (j′, longer t a l na (waits-a (suc t) (j′ .0))))) (cases-eq (c t) a))
-              t (e, v, idle-home (r .good t .each b m) u, omega arith) in
+          (λ t j. ⊎-elim inl (λ na. let j′ = on t j na in inr (inr (j′, longer t a l na (waits-a (suc t) (j′ .0))))) (cases-eq (c t) a))
+          t (e, v, idle-home (r .good t .each b m) u, omega arith) in
           (k, x, j .0, ⊎-elim (λ v. v) (λ (v : ⊥). absurd v) q)
         where
           first : (t : ℕ) → Behind t → (c t < f .shuttles) × (w t a ≤ w t (c t))
@@ -209,8 +211,8 @@ module _ (f : Field) (ok : sound f ≡ true) (two : At-most-two f) (d : ℕ) (h 
               let nb : c t ≡ b → ⊥ = λ q. let q′ : w t (c t) ≡ w t b = ap (w t) q in omega arith in
               let e′ = stays t (j .0) na in
               let still : (h (suc t) b .at ≡ h t b .at) × (h (suc t) b .moving ≡ false) = ⊎-elim (λ u. r .idling t b m (j .1) u)
-                  (λ u. let q = r .waiting t b m nb (j .1) u in (ap (λ k. k .at) q, ap (λ k. k .moving) q ∙ j .1))
-                  (cases-bool (is-empty (h t b .route))) in
+              (λ u. let q = r .waiting t b m nb (j .1) u in (ap (λ k. k .at) q, ap (λ k. k .moving) q ∙ j .1))
+              (cases-bool (is-empty (h t b .route))) in
               let g = grow t b m in
               let g′ = longer t a l na (waits-a (suc t) e′) in
               (e′, still .1, still .0 ∙ j .2, omega arith)
@@ -309,7 +311,7 @@ module _ (f : Field) (ok : sound f ≡ true) (two : At-most-two f) (d : ℕ) (h 
     by-route t e₀ [] e = absurd (both-ways true (ap is-empty (sym e) ∙ left) refl)
     by-route t e₀ (x ∷ xs) e =
         let on-route : route-ok f a (h t a .at) (x ∷ xs) ≡ true = subst (λ q. route-ok f a (h t a .at) q ≡ true) (ap (λ k. k .route) e₀ ∙ e)
-            (r .good t .each a l .on-route) in
+        (r .good t .each a l .on-route) in
         ⊎-elim
         (λ (o : open-square f x ≡ true). open-way t e₀ x xs e o on-route)
         (λ (o : (x ≡ f .bay a) × (is-empty xs ≡ true)). to-bay t e₀ x xs e (o .0) (o .1))

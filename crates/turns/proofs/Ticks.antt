@@ -35,8 +35,11 @@ arrive-makes f g i l j =
     ⊎-elim
     (λ (q : j ≡ i). inl (q, m, ap (λ x. x j) e ∙ ap (put g i (arrived (g i))) q ∙ put-here g i (arrived (g i))))
     (λ ne. inr (λ q. absurd (ne q), ap (λ x. x j) e ∙ put-other g i (arrived (g i)) j ne)) (cases-eq j i))
-    (λ (m : g i .moving ≡ false). inr (λ _. m, ap (λ x. x j) (cond-false (ltb i (f .shuttles) && g i .moving) (put g i (arrived (g i))) g
-    (grind (arith, tells)))))
+    (λ (m : g i .moving ≡ false). inr (
+      λ _. m,
+      ap (λ x. x j) (cond-false (ltb i (f .shuttles) && g i .moving) (put g i (arrived (g i))) g
+          (grind (arith, tells))),
+    ))
     (cases-bool (g i .moving))
 
 module _ (f : Field) (g : Fleet) (marks : List ℕ) where
@@ -50,8 +53,8 @@ module _ (f : Field) (g : Fleet) (marks : List ℕ) where
       let h = come-to f g marks k in
       let before = comes k (omega arith) in
       let here : h k ≡ g k = ⊎-elim
-          (λ (t : (k < k) × (is-due marks k ≡ true) × (g k .moving ≡ true) × (h k ≡ arrived (g k))). absurd (omega arith))
-          (λ (t : (k < k → (is-due marks k && g k .moving) ≡ false) × (h k ≡ g k)). t .1) (before k) in
+      (λ (t : (k < k) × (is-due marks k ≡ true) × (g k .moving ≡ true) × (h k ≡ arrived (g k))). absurd (omega arith))
+      (λ (t : (k < k → (is-due marks k && g k .moving) ≡ false) × (h k ≡ g k)). t .1) (before k) in
       ⊎-elim
       (λ (d : is-due marks k ≡ true).
       let e : come-to f g marks (suc k) ≡ happens f h (arrive k) = cond-true _ _ h d in
@@ -173,7 +176,7 @@ chooses f g ws (suc k) l = on (chosen-to f g ws k) refl (chooses f g ws k (omega
               let g′ : grants f g k ≡ true = subst (λ x. grants f g x ≡ true) d h in
               let w : getD ws i 0 ≡ getD ws k 0 = ap (λ x. getD ws x 0) d in
               let o : getD ws k 0 ≤ getD ws b 0 = ltb-false (getD ws b 0) (getD ws k 0)
-                  (⊎-elim (λ z. absurd (both-ways (grants f g k) z g′)) (λ z. or-parts (eqb b n) _ z .1) (and-cases (grants f g k) _ e)) in
+              (⊎-elim (λ z. absurd (both-ways (grants f g k) z g′)) (λ z. or-parts (eqb b n) _ z .1) (and-cases (grants f g k) _ e)) in
               let u = t .below in
               ⊎-elim (λ y. inl y) (λ (y : getD ws b 0 ≤ getD ws i 0). inr (omega arith, omega arith))
               (cases-lt (getD ws i 0) (getD ws b 0))) (split i c);
