@@ -34,16 +34,16 @@ fn answers(heap: Global, at: [u16; 2], one: &[u16], other: &[u16]) -> Result<[bo
 #[test]
 fn steps_are_granted_where_all_stays_safe(rt: LibcRuntime) -> Result<(), Fail> {
     let heap = rt.alloc();
-    let either = answers(heap, [0, 3], &[1, 2, 1, 0], &[2, 1, 2, 3])?;
-    check_eq(either, [true, true, true])?;
-    let one = answers(heap, [1, 3], &[2, 1, 0], &[2, 1, 2, 3])?;
-    check_eq(one, [true, true, false])?;
-    let none = answers(heap, [1, 2], &[2, 6, 5, 4, 0], &[1, 5, 6, 7, 3])?;
-    check_eq(none, [false, false, false])?;
-    let round = answers(heap, [0, 3], &[1, 2, 6, 5, 4, 0], &[7, 6, 5, 1, 2, 3])?;
-    check_eq(round, [true, true, true])?;
-    let next = answers(heap, [2, 7], &[6, 5, 4, 0], &[6, 5, 1, 2, 3])?;
-    check_eq(next, [true, true, false])
+    let answers = [
+        answers(heap, [0, 3], &[1, 2, 1, 0], &[2, 1, 2, 3])?,
+        answers(heap, [1, 3], &[2, 1, 0], &[2, 1, 2, 3])?,
+        answers(heap, [1, 2], &[2, 6, 5, 4, 0], &[1, 5, 6, 7, 3])?,
+        answers(heap, [0, 3], &[1, 2, 6, 5, 4, 0], &[7, 6, 5, 1, 2, 3])?,
+        answers(heap, [2, 7], &[6, 5, 4, 0], &[6, 5, 1, 2, 3])?,
+    ];
+    let either = [true, true, true];
+    let one = [true, true, false];
+    check_eq(answers, [either, one, [false; 3], either, one])
 }
 
 #[test]
