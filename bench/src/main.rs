@@ -2,23 +2,28 @@
 //! many ticks nights take beside the bound; and what the rule is worth in a hall. Prints it as one document.
 
 mod case;
+mod chart;
 mod contender;
 mod halls;
 mod maze;
 mod measure;
+mod nights;
 mod plain;
 mod plain_tick;
 mod plain_way;
 mod random;
+mod rules;
+mod throughput;
 mod ticks;
 mod tuned;
+mod warehouse;
 mod ways;
 
 use case::{Case, Contender};
 use std::process::ExitCode;
 
 fn main() -> ExitCode {
-    match print_all() {
+    match print_all(std::env::args().nth(1).as_deref()) {
         Ok(()) => ExitCode::SUCCESS,
         Err(fault) => {
             eprintln!("{fault}");
@@ -27,13 +32,18 @@ fn main() -> ExitCode {
     }
 }
 
-fn print_all() -> Result<(), String> {
+/// With the name of a file the picture is written to it.
+fn print_all(picture: Option<&str>) -> Result<(), String> {
     println!("# Measured\n\n## Times\n");
     println!("One whole call; median of many turns, the contenders in turns within one run, all buffers warm.");
     println!("Times in nanoseconds for plain Rust; the others as multiples of it.");
     print_times("Event", &contender::all(), &halls::all())?;
     print_times("Shortest route", &ways::contenders(), &ways::all())?;
-    print_times("Tick", &ticks::contenders(), &ticks::all())
+    print_times("Tick", &ticks::contenders(), &ticks::all())?;
+    nights::print();
+    let lines = throughput::all();
+    throughput::print(&lines);
+    picture.map_or(Ok(()), |name| std::fs::write(name, chart::svg(&lines)).map_err(|error| format!("{name}: {error}")))
 }
 
 fn print_times<C: Case>(title: &str, contenders: &[Contender<C::Function>], cases: &[C]) -> Result<(), String> {
