@@ -128,8 +128,10 @@ pub fn print(lines: &[Line]) {
 }
 
 fn print_under_way(lines: &[Line], names: &[&str]) {
-    println!("\nShuttles under way, mean over the ticks; and in how many nights of a hundred a ring came if only next");
-    println!("squares are looked at, and after how many ticks. With no other rule one came.\n");
+    println!(
+        "\nShuttles under way, those that are stuck among them, mean over the ticks; and in how many nights of a \
+         hundred a ring came if only next squares are looked at, and after how many ticks. With no other rule one came.\n"
+    );
     println!("| Hall | Shuttles | {} | nights with a ring | after ticks |", names.join(" | "));
     println!("|---|---:|{}---:|---:|", "---:|".repeat(names.len()));
     for Line { hall, shuttles, done } in lines {

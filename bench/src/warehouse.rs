@@ -6,6 +6,8 @@ use crate::random::Random;
 
 const ACROSS: usize = 19;
 const DOWN: usize = 14;
+/// Every third column of these rows is an aisle.
+const RACK_ROWS: [usize; 6] = [3, 4, 5, 8, 9, 10];
 
 pub struct Warehouse {
     pub name: &'static str,
@@ -21,7 +23,7 @@ impl Warehouse {
 
     /// Two blocks of racks with aisles one square wide, and between them and at both ends two rows to cross.
     pub fn racks(shuttles: usize) -> Warehouse {
-        Warehouse::new("racks", shuttles, |row, column| [3, 4, 5, 8, 9, 10].contains(&row) && column % 3 != 0)
+        Warehouse::new("racks", shuttles, |row, column| RACK_ROWS.contains(&row) && !column.is_multiple_of(3))
     }
 
     /// A floor without racks.
@@ -35,7 +37,7 @@ impl Warehouse {
         let (niches, on_a_side) = (8, shuttles.div_ceil(2));
         let bay = |i: usize| {
             let column = 2 * (i / 2 * niches / on_a_side);
-            if i % 2 == 0 { ACROSS * (DOWN - 1) + column + 1 } else { column + 3 }
+            if i.is_multiple_of(2) { ACROSS * (DOWN - 1) + column + 1 } else { column + 3 }
         };
         let bays: Vec<u16> = (0..shuttles).map(|i| bay(i) as u16).collect();
         let is_wall = |square: usize| {
@@ -44,7 +46,7 @@ impl Warehouse {
             if at_end { !bays.contains(&(square as u16)) } else { is_rack(row, column) }
         };
         let walls = (0..ACROSS * DOWN).map(|square| u8::from(is_wall(square))).collect();
-        let aisle = |square: &usize| [3, 4, 5, 8, 9, 10].contains(&(square / ACROSS)) && square % ACROSS % 3 == 0;
+        let aisle = |square: &usize| RACK_ROWS.contains(&(square / ACROSS)) && (square % ACROSS).is_multiple_of(3);
         let goods = (0..ACROSS * DOWN).filter(aisle).map(|square| square as u16).collect();
         Warehouse { name, walls, bays, goods }
     }
