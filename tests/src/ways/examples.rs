@@ -79,7 +79,8 @@ fn expect(pair: &mut Pair, case: &Case, route: Option<&[u16]>) -> Result<(), Dif
 
 /// A corridor of so many squares: to its end and back is as long as a route may be, or one or two squares longer.
 fn corridors(pair: &mut Pair) -> Result<(), Difference> {
-    let row = |square: u16| square / 64 * 128 + if square / 64 % 2 == 0 { square % 64 } else { 63 - square % 64 };
+    let row =
+        |square: u16| square / 64 * 128 + if (square / 64).is_multiple_of(2) { square % 64 } else { 63 - square % 64 };
     // The squares between two rows of the corridor are opened at the ends, so that place 64 lies below place 63.
     let corridor: Vec<u16> = (0..3)
         .flat_map(|k| {
