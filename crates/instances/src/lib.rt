@@ -2,6 +2,7 @@
 // them is empty. Each function says one of them in its contract, so that the check asks for its proof; it computes nothing.
 ghost use Rattle.instances.specs.Never.{No-order-exists, Blocked-pair-never-comes-about, No-route-over-other-bays};
 ghost use Rattle.instances.specs.Reach.{Row-is-accepted, Busy-is-reached};
+ghost use Rattle.instances.specs.Rows.{Hypotheses};
 
 // A small field is accepted.
 pub fn row_is_accepted() -> u8
@@ -34,6 +35,13 @@ pub fn blocked_pair_never_comes_about() -> u8
 // A shuttle in its bay blocks nobody.
 pub fn no_route_over_other_bays() -> u8
     ensures { λ _. ⌜ No-route-over-other-bays ⌝ }
+{
+    0
+}
+
+// What the promises suppose of a row of events holds after some row.
+pub fn hypotheses_hold() -> u8
+    ensures { λ _. ⌜ Hypotheses ⌝ }
 {
     0
 }
