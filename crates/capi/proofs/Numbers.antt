@@ -33,7 +33,7 @@ start-small zero a d ws bs m n m₁ l s = omega (arith, s .0)
 start-small (suc k) a d ws bs m n m₁ l s = omega (arith, s .0)
 
 pub call-small : (a d : ℕ) (ws bs m : List ℕ) (kind i : ℕ) (r : List ℕ) (f : Field) (e : Event) (n : ℕ) (m₁ : List ℕ)
-  → Says (refusal a d ws bs m kind i r) f m e n m₁ → n ≤ 255
+    → Says (refusal a d ws bs m kind i r) f m e n m₁ → n ≤ 255
 call-small a d ws bs m kind i r f e n m₁ s = says-small _ f m e n m₁ (refusal-most a d ws bs m kind i r) s
 
 pub begin-small : (a d : ℕ) (ws bs m : List ℕ) (n : ℕ) (m₁ : List ℕ) → Start-says a d ws bs m n m₁ → n ≤ 255

@@ -33,12 +33,12 @@ comes-small t a d ws bs marks m n m₁ vs₁ few c =
     let small = for-small (length bs) (t .whose) whose few in let is = c .answer in omega arith
 
 says-small : (k a d : ℕ) (ws bs m vs marks : List ℕ) (n : ℕ) (m₁ vs₁ : List ℕ) → k ≤ 6 → (k ≡ 0 → length bs ≤ 16)
-  → Tick-says k a d ws bs m vs marks n m₁ vs₁ → n < 131072
+    → Tick-says k a d ws bs m vs marks n m₁ vs₁ → n < 131072
 unfolding Tick-says
 says-small zero a d ws bs m vs marks n m₁ vs₁ l few s = comes-small _ a d ws bs marks m n m₁ vs₁ (few refl) s
 says-small (suc k) a d ws bs m vs marks n m₁ vs₁ l few s = omega (arith, s .0)
 
 pub tick-small : (a d : ℕ) (ws bs m vs marks : List ℕ) (n : ℕ) (m₁ vs₁ : List ℕ)
-  → Tick-says (tick-refusal a d ws bs m vs marks) a d ws bs m vs marks n m₁ vs₁ → n < 131072
+    → Tick-says (tick-refusal a d ws bs m vs marks) a d ws bs m vs marks n m₁ vs₁ → n < 131072
 tick-small a d ws bs m vs marks n m₁ vs₁ s =
     says-small _ a d ws bs m vs marks n m₁ vs₁ (refusal-most a d ws bs m vs marks) (λ e. accepted a d ws bs (not-refused a d ws bs m vs marks e) .few) s

@@ -20,7 +20,15 @@ fn number_of_ticked(answer: Ticked) -> u64
 
 // One tick, as tick::tick has it.
 #[unsafe(no_mangle)]
-pub extern "C" fn tick(across: u64, down: u64, walls: &[u8], bays: &[u16], memory: &mut [u16], waits: &mut [u64], due: &[u8]) -> u64
+pub extern "C" fn tick(
+    across: u64,
+    down: u64,
+    walls: &[u8],
+    bays: &[u16],
+    memory: &mut [u16],
+    waits: &mut [u64],
+    due: &[u8],
+) -> u64
     ensures says { λ r. ⌜ Tick-says (tick-refusal across down (now (walls .entry)) (now (bays .entry)) (now (memory .entry)) (now (waits .entry)) (now (due .entry))) across down (now (walls .entry)) (now (bays .entry)) (now (memory .entry)) (now (waits .entry)) (now (due .entry)) r (now (memory .exit)) (now (waits .exit)) ⌝ }
     ensures stays { λ _. ⌜ (Reached across down (now (walls .entry)) (now (bays .entry)) (now (memory .entry)) → Reached across down (now (walls .entry)) (now (bays .entry)) (now (memory .exit)) × Promised across down (now (walls .entry)) (now (bays .entry)) (now (memory .exit))) ⌝ }
 {
