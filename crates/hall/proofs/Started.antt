@@ -26,23 +26,27 @@ home-is f m i l =
     sym (stored-is m i (at-home f i) (omega arith) ∙ ap (λ k. take (260 * i + 4) h ++ drop k h) (add-zero (260 * i + 4)) ∙ take-append-drop (260 * i + 4) h)
 
 module _ (a d : ℕ) (ws bs m : List ℕ) where
-  pub start-refused-field : field-ok a d ws bs ≡ false → Start-says a d ws bs m 17 m
-  unfolding start-refusal Start-left
-  start-refused-field h = subst (λ k. Start-left k a d ws bs m 17 m) (sym (let e : start-refusal a d ws bs m ≡ 1 = rw h in e)) (refl, refl)
+  pub no-field : field-ok a d ws bs ≡ false → start-refusal a d ws bs m ≡ 1
+  unfolding start-refusal
+  no-field h = rw h
 
-  pub start-refused-memory : field-ok a d ws bs ≡ true → (length m ≡ 260 * length bs → ⊥) → Start-says a d ws bs m 18 m
-  unfolding start-refusal Start-left
-  start-refused-memory h ne =
-      let other = ne-eqb (length m) (260 * length bs) ne in
-      subst (λ k. Start-left k a d ws bs m 18 m) (sym (let e : start-refusal a d ws bs m ≡ 2 = rw (h, other) in e)) (refl, refl)
+  pub no-memory : field-ok a d ws bs ≡ true → (length m ≡ 260 * length bs → ⊥) → start-refusal a d ws bs m ≡ 2
+  unfolding start-refusal
+  no-memory h ne = let other = ne-eqb (length m) (260 * length bs) ne in rw (h, other)
+
+  pub both : field-ok a d ws bs ≡ true → length m ≡ 260 * length bs → start-refusal a d ws bs m ≡ 0
+  unfolding start-refusal
+  both h long = let same = eq-eqb (length m) (260 * length bs) long in rw (h, same)
+
+  pub start-refused : (k : ℕ) → start-refusal a d ws bs m ≡ suc k → Start-says a d ws bs m (16 + suc k) m
+  unfolding Start-left
+  start-refused k e = subst (λ k′. Start-left k′ a d ws bs m (16 + suc k) m) (sym e) (refl, refl)
 
   module _ (ok : field-ok a d ws bs ≡ true) (long : length m ≡ 260 * length bs) (m₁ : List ℕ)
       (is : m₁ ≡ started (field-in a d ws bs) (length bs) m) where
     pub start-done : Start-says a d ws bs m 0 m₁
-    unfolding start-refusal Start-left
-    start-done =
-        let same = eq-eqb (length m) (260 * length bs) long in
-        subst (λ k. Start-left k a d ws bs m 0 m₁) (sym (let e : start-refusal a d ws bs m ≡ 0 = rw (ok, same) in e)) (refl, is)
+    unfolding Start-left
+    start-done = subst (λ k. Start-left k a d ws bs m 0 m₁) (sym (both ok long)) (refl, is)
 
     pub start-reached : Reached a d ws bs m₁ × Promised a d ws bs m₁
     start-reached =

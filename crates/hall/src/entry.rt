@@ -8,7 +8,7 @@ ghost use Rattle.rules.specs.Memory.{field-in, memory-ok, event-ok, event-in, s
 ghost use Rattle.promise.specs.Promise.{sum-to, squares-left, events-left};
 ghost use Rattle.calls.specs.Call.{Says, Reached, Promised};
 ghost use Rattle.field.specs.Model.{field-of};
-ghost use Rattle.hall.specs.Answer.{number};
+ghost use Rattle.hall.specs.Answer.{number, refusal-of};
 ghost use Rattle.hall.specs.Event.{event-of, short};
 use super::done::Done;
 use super::event::Event;
@@ -71,6 +71,7 @@ pub fn happen(
     route: &[u16],
 ) -> Done
     ensures says { λ r. ⌜ Says (refusal across down (now (walls .entry)) (now (bays .entry)) (now (memory .entry)) kind shuttle (now (route .entry))) (field-in across down (now (walls .entry)) (now (bays .entry))) (now (memory .entry)) (event-in kind shuttle (now (route .entry))) (number r) (now (memory .exit)) ⌝ }
+    ensures refuses { λ r. ⌜ refusal-of r ≡ refusal across down (now (walls .entry)) (now (bays .entry)) (now (memory .entry)) kind shuttle (now (route .entry)) ⌝ }
     ensures stays { λ _. ⌜ (Reached across down (now (walls .entry)) (now (bays .entry)) (now (memory .entry)) → Reached across down (now (walls .entry)) (now (bays .entry)) (now (memory .exit)) × Promised across down (now (walls .entry)) (now (bays .entry)) (now (memory .exit))) ⌝ }
     ensures less { λ r. ⌜ (kind ≡ 1 → number r ≡ 0 → suc (sum-to squares-left (shuttle-in (now (memory .exit))) (length (now (bays .entry)))) ≡ sum-to squares-left (shuttle-in (now (memory .entry))) (length (now (bays .entry)))) ⌝ }
     ensures falls { λ r. ⌜ (1 ≤ kind → number r ≡ 0 → suc (sum-to events-left (shuttle-in (now (memory .exit))) (length (now (bays .entry)))) ≡ sum-to events-left (shuttle-in (now (memory .entry))) (length (now (bays .entry)))) ⌝ }

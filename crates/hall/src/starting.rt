@@ -2,8 +2,8 @@
 ghost use mathlib.Core.Path.{_≡_};
 ghost use Rattle.rules.specs.Memory.{field-in};
 ghost use Rattle.calls.specs.Call.{Reached, Promised};
-ghost use Rattle.hall.specs.Answer.{number};
-ghost use Rattle.hall.specs.Start.{Start-says};
+ghost use Rattle.hall.specs.Answer.{number, refusal-of};
+ghost use Rattle.hall.specs.Start.{start-refusal, Start-says};
 use super::done::Done;
 use field::is_field;
 use safety::write_numbers;
@@ -12,6 +12,7 @@ use safety::write_numbers;
 // Places for what is left stay as they were.
 pub fn start(across: u64, down: u64, walls: &[u8], bays: &[u16], memory: &mut [u16]) -> Done
     ensures says { λ r. ⌜ Start-says across down (now (walls .entry)) (now (bays .entry)) (now (memory .entry)) (number r) (now (memory .exit)) ⌝ }
+    ensures refuses { λ r. ⌜ refusal-of r ≡ start-refusal across down (now (walls .entry)) (now (bays .entry)) (now (memory .entry)) ⌝ }
     ensures begins { λ r. ⌜ (number r ≡ 0 → Reached across down (now (walls .entry)) (now (bays .entry)) (now (memory .exit)) × Promised across down (now (walls .entry)) (now (bays .entry)) (now (memory .exit))) ⌝ }
 {
     if !is_field(across, down, walls, bays) {

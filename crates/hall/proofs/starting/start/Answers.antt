@@ -8,25 +8,26 @@ use Rattle.rules.specs.Shuttle.{at-home}
 use Rattle.rules.specs.Memory.{field-in, stored, started}
 use Rattle.rules.proofs.Fields.{accepted}
 use Rattle.safety.proofs.Writing.{headed-long}
-use Rattle.hall.specs.Answer.{number}
-use Rattle.hall.proofs.Started.{home-is, start-refused-field, start-refused-memory, start-done, start-reached}
+use Rattle.hall.specs.Answer.{number, refusal-of}
+use Rattle.hall.proofs.Started.{home-is, no-field, no-memory, both, start-refused, start-done, start-reached}
 use Rattle.hall.proofs.starting.start.Needs as need
 
 pub returns-then-not-is-field : need.returns-then-not-is-field
-unfolding number
+unfolding number refusal-of
 returns-then-not-is-field c =
-    record { says = start-refused-field _ _ _ _ _ (sym (c .is-field .ensures) ∙ c .if-not-is-field .taken); begins = λ z. absurd (omega arith) }
+    let a = c .args in
+    let why = no-field (a .across) (a .down) (a .walls .now) (a .bays .now) (a .memory .now) (sym (c .is-field .ensures) ∙ c .if-not-is-field .taken) in
+    record { says = start-refused _ _ _ _ _ 0 why; refuses = sym why; begins = λ z. absurd (omega arith) }
 
 pub mul-bays : need.mul-bays
 mul-bays c = let few = accepted _ _ _ _ (sym (c .is-field .ensures) ∙ c .if-not-is-field .left) .few in omega arith
 
 pub returns-then-memory-bays : need.returns-then-memory-bays
-unfolding number
+unfolding number refusal-of
 returns-then-memory-bays c =
-    record {
-      says = start-refused-memory _ _ _ _ _ (sym (c .is-field .ensures) ∙ c .if-not-is-field .left) (c .if-memory-bays .taken);
-      begins = λ z. absurd (omega arith);
-    }
+    let a = c .args in
+    let why = no-memory (a .across) (a .down) (a .walls .now) (a .bays .now) (a .memory .now) (sym (c .is-field .ensures) ∙ c .if-not-is-field .left) (c .if-memory-bays .taken) in
+    record { says = start-refused _ _ _ _ _ 1 why; refuses = sym why; begins = λ z. absurd (omega arith) }
 
 pub loop-i-holds : need.loop-i-holds
 unfolding started
@@ -44,9 +45,11 @@ loop-i-again c =
     )
 
 pub returns : need.returns
-unfolding number
+unfolding number refusal-of
 returns c =
     let ok = sym (c .is-field .ensures) ∙ c .if-not-is-field .left in
     let all : c .loop-i .i ≡ length (c .args .bays .now) = omega arith in
     let is = c .loop-i .inv .0 ∙ ap (λ k. started (field-in (c .args .across) (c .args .down) (c .args .walls .now) (c .args .bays .now)) k (c .args .memory .now)) all in
-    record { says = start-done _ _ _ _ _ ok (c .if-memory-bays .left) _ is; begins = λ _. start-reached _ _ _ _ _ ok (c .if-memory-bays .left) _ is }
+    let a = c .args in
+    let none = both (a .across) (a .down) (a .walls .now) (a .bays .now) (a .memory .now) ok (c .if-memory-bays .left) in
+    record { says = start-done _ _ _ _ _ ok (c .if-memory-bays .left) _ is; refuses = sym none; begins = λ _. start-reached _ _ _ _ _ ok (c .if-memory-bays .left) _ is }
