@@ -10,6 +10,9 @@ pub fn tell(rt: &LibcRuntime, refusal: Refusal) -> io::Result<()> {
         Refusal::Event => rt.eprintln(
             "there is no such shuttle, or the route has more than 256 letters",
         ),
+        Refusal::Squares => rt.eprintln(
+            "a square is outside the field, or there are more than eight",
+        ),
         Refusal::Line(k) => eprintln!(rt, "line {k}, counted from 0, can't be read"),
     }
 }

@@ -3,9 +3,13 @@ use console::Input;
 use console::read_input;
 use console::tell;
 use console::turn_away;
+use session::Clock;
 use session::Command;
+use session::Led;
+use session::Place;
 use session::Said;
 use session::Session;
+use session::Ticks;
 use session::read_command;
 use std::alloc::Global;
 use std::error::AnyError;
@@ -17,6 +21,7 @@ use text::Unread;
 use text::lines_of;
 use text::read_field;
 use text::rows_in;
+use tick::Ticked;
 
 const HELP: &str = "play [FILE]: play a row of events in a hall, from FILE or standard input.
 
@@ -25,8 +30,13 @@ After an empty line each line is a command:
   order a rrddlluu   give shuttle a a route: left, right, up and down, back to its bay
   step a             shuttle a asks for its next square
   arrive a           shuttle a has come to its square
+  way a 5,3 7,1      tell the shortest route of shuttle a from its bay through up to
+                     eight squares, each as column and row from 0
+  tick 20 d 3        make twenty ticks, each arrival due three ticks after its step
   show               show the hall
-What happened prints 'granted', what did not 'not'. The picture has a capital letter
+What happened prints 'granted', what did not 'not'. A way prints the letters of the
+route, as an order has them, or 'none'. Each tick prints the letter of the shuttle whose
+step was granted, or '-'. The picture has a capital letter
 where a shuttle is and, while it moves, on the square that it comes from. What is
 turned away prints 'refused' and a number, with words on standard error.
 ";
@@ -37,6 +47,65 @@ fn print_answer(rt: &LibcRuntime, answer: Answer) -> Result<(), AnyError> {
     if let Answer::Refused(refusal) = answer {
         tell(rt, refusal)?;
     }
+    Ok(())
+}
+
+// Has a shuttle ask for its next square; a step that is granted is no tick old.
+fn step(
+    rt: &LibcRuntime,
+    session: &mut Session,
+    clock: &mut Clock,
+    shuttle: u64,
+) -> Result<(), AnyError> {
+    let answer = session.step(shuttle);
+    if let Answer::Granted = answer {
+        clock.stepped(shuttle);
+    }
+    print_answer(rt, answer)
+}
+
+// Prints the way of a shuttle from its bay through these squares.
+fn print_way(
+    rt: &LibcRuntime,
+    heap: Global,
+    session: &Session,
+    shuttle: u64,
+    places: &[Place],
+) -> Result<(), AnyError> {
+    match session.way(heap, shuttle, places)? {
+        Led::Along(letters) => {
+            let mut line = letters;
+            line.push(b'\n')?;
+            rt.stdout().write_all(line.as_slice())?;
+            Ok(())
+        }
+        Led::Nowhere => Ok(rt.println("none")?),
+        Led::Refused(refusal) => Ok(turn_away(rt, refusal)?),
+    }
+}
+
+// The letter of the shuttle whose step was granted.
+fn tick_sign(answer: Ticked) -> u8 {
+    match answer {
+        Ticked::Granted(shuttle) if shuttle < 16 => b'a' + shuttle as u8,
+        _ => b'-',
+    }
+}
+
+// Makes ticks, and prints a line for each.
+fn make_ticks(
+    rt: &LibcRuntime,
+    heap: Global,
+    session: &mut Session,
+    clock: &mut Clock,
+    ticks: Ticks,
+) -> Result<(), AnyError> {
+    let mut lines = Vec::new(heap);
+    for _ in 0..ticks.count {
+        lines.push(tick_sign(session.tick(heap, clock, ticks.due)?))?;
+        lines.push(b'\n')?;
+    }
+    rt.stdout().write_all(lines.as_slice())?;
     Ok(())
 }
 
@@ -52,6 +121,7 @@ fn carry_out(
     rt: &LibcRuntime,
     heap: Global,
     session: &mut Session,
+    clock: &mut Clock,
     command: Command,
 ) -> Result<(), AnyError> {
     match command {
@@ -59,8 +129,10 @@ fn carry_out(
             rt,
             session.order(heap, shuttle, ways.as_slice())?,
         ),
-        Command::Step(shuttle) => print_answer(rt, session.step(shuttle)),
+        Command::Step(shuttle) => step(rt, session, clock, shuttle),
         Command::Arrive(shuttle) => print_answer(rt, session.arrive(shuttle)),
+        Command::Way(shuttle, places) => print_way(rt, heap, session, shuttle, places.as_slice()),
+        Command::Tick(ticks) => make_ticks(rt, heap, session, clock, ticks),
         Command::Show => show(rt, heap, session),
     }
 }
@@ -70,6 +142,7 @@ fn play_lines(
     rt: &LibcRuntime,
     heap: Global,
     session: &mut Session,
+    clock: &mut Clock,
     lines: &[&[u8]],
     rows: usize,
 ) -> Result<(), AnyError> {
@@ -77,7 +150,7 @@ fn play_lines(
         match read_command(heap, line)? {
             Said::Nothing => {}
             Said::Unreadable => turn_away(rt, Refusal::Line(rows as u64 + 1 + k as u64))?,
-            Said::Asked(command) => carry_out(rt, heap, session, command)?,
+            Said::Asked(command) => carry_out(rt, heap, session, clock, command)?,
         }
     }
     Ok(())
@@ -94,7 +167,8 @@ fn play_text(rt: &LibcRuntime, heap: Global, lines: &[&[u8]]) -> Result<(), AnyE
     match Session::open(heap, shown)? {
         Some(session) => {
             let mut session = session;
-            play_lines(rt, heap, &mut session, lines, rows)
+            let mut clock = Clock::start(heap, &session)?;
+            play_lines(rt, heap, &mut session, &mut clock, lines, rows)
         }
         None => Ok(turn_away(rt, Refusal::Field)?),
     }

@@ -13,6 +13,8 @@ use Rattle.std.proofs.shelf.Lists.{getD-map, getD-past}
 use Rattle.std.proofs.shelf.Tests.{cond-true, cond-false}
 use Rattle.text.specs.Lines.{pieces}
 use Rattle.session.specs.declared.commands.Verb.{Verb}
+use Rattle.session.specs.Numbers.{ticks-in}
+use Rattle.session.specs.declared.numbers.Ticks.{Ticks}
 use Rattle.session.specs.Commands.{Ask, nothing, unreadable, verb-of, shuttle-of, on-verb, asked-by, asked}
 
 -- the word at a place
@@ -31,11 +33,14 @@ asked-nothing (w ∷ ws) h = absurd (omega arith)
 pub asked-unknown : (ws : List (List ℕ)) → false ≡ eqb (length ws) 0 → verb-of (getD ws 0 []) ≡ None → unreadable ≡ asked ws
 unfolding asked
 asked-unknown ws h e =
-    sym (cond-false _ _ _ (sym h) ∙ ap (λ o. on-verb o (λ v. asked-by v (length ws) (shuttle-of (getD ws 1 [])) (getD ws 2 []))) e)
+    sym (cond-false _ _ _ (sym h) ∙ ap (λ o. on-verb o (λ v. asked-by v (length ws) (shuttle-of (getD ws 1 [])) (getD ws 2 []) ws (ticks-in (getD ws 1 []) (getD ws 2 []) (getD ws 3 [])))) e)
 
-pub asked-known : (ws : List (List ℕ)) (v : Verb) (n : ℕ) (s : Option ℕ) (l : List ℕ) → false ≡ eqb (length ws) 0
-    → verb-of (getD ws 0 []) ≡ Some v → n ≡ length ws → s ≡ shuttle-of (getD ws 1 []) → l ≡ getD ws 2 [] → asked-by v n s l ≡ asked ws
+pub asked-known : (ws : List (List ℕ)) (v : Verb) (n : ℕ) (s : Option ℕ) (l : List ℕ) (t : Option Ticks) → false ≡ eqb (length ws) 0
+    → verb-of (getD ws 0 []) ≡ Some v → n ≡ length ws → s ≡ shuttle-of (getD ws 1 []) → l ≡ getD ws 2 []
+    → t ≡ ticks-in (getD ws 1 []) (getD ws 2 []) (getD ws 3 []) → asked-by v n s l ws t ≡ asked ws
 unfolding asked
-asked-known ws v n s l h e many whose are =
-    ap (λ m. asked-by v m s l) many ∙ ap (λ t. asked-by v (length ws) t l) whose ∙ ap (asked-by v (length ws) (shuttle-of (getD ws 1 []))) are
-    ∙ sym (cond-false _ _ _ (sym h) ∙ ap (λ o. on-verb o (λ v. asked-by v (length ws) (shuttle-of (getD ws 1 [])) (getD ws 2 []))) e)
+asked-known ws v n s l t h e many whose are turns =
+    ap (λ m. asked-by v m s l ws t) many ∙ ap (λ x. asked-by v (length ws) x l ws t) whose
+    ∙ ap (λ x. asked-by v (length ws) (shuttle-of (getD ws 1 [])) x ws t) are
+    ∙ ap (asked-by v (length ws) (shuttle-of (getD ws 1 [])) (getD ws 2 []) ws) turns
+    ∙ sym (cond-false _ _ _ (sym h) ∙ ap (λ o. on-verb o (λ v. asked-by v (length ws) (shuttle-of (getD ws 1 [])) (getD ws 2 []) ws (ticks-in (getD ws 1 []) (getD ws 2 []) (getD ws 3 [])))) e)

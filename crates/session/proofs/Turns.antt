@@ -15,6 +15,10 @@ use Rattle.rules.specs.Memory.{field-in, field-ok, memory-ok, event-ok, event-i
 use Rattle.calls.specs.Call.{Says, Reached, Promised}
 use Rattle.calls.proofs.Follow.{follows, played-field, started-holds}
 use Rattle.calls.proofs.Keep.{keeps-promises}
+use Rattle.tick.specs.declared.ticked.Ticked.{Ticked}
+use Rattle.tick.specs.Tick.{tick-refusal, Tick-says}
+use Rattle.session.specs.declared.state.Session.{Session}
+use Rattle.session.specs.Ticks.{Turned}
 use Rattle.hall.specs.declared.done.Done.{Done}
 use Rattle.hall.specs.declared.done.Done.the-variants.{Happened, Not, Refused}
 use Rattle.hall.specs.Answer.{number}
@@ -97,3 +101,13 @@ start-none a d ws bs m n r says other long = go (field-ok a d ws bs) (eqb (lengt
     go true true ok is left = absurd (other (number-zero r (left .0)))
     go true false ok is left = absurd (eqb-false _ _ is (long ok))
     go false u ok is left = ok
+
+-- a tick there, at the lists that it was lent
+pub turn-on : (a d : ℕ) (ws ws′ bs bs′ m m′ n n′ vs vs′ marks : List ℕ) (answer : ℕ) → ws′ ≡ ws → bs′ ≡ bs → m′ ≡ m → n′ ≡ n
+    → Tick-says (tick-refusal a d ws′ bs′ m′ vs marks) a d ws′ bs′ m′ vs marks answer n′ vs′
+    → Tick-says (tick-refusal a d ws bs m vs marks) a d ws bs m vs marks answer n vs′
+turn-on a d ws ws′ bs bs′ m m′ n n′ vs vs′ marks answer p q r s says = rw (p, q, r, s) at says
+
+pub turned-at : (s t : Session) (vs vs₁ vs′ vs₁′ marks marks′ : List ℕ) (answer : Ticked) → vs ≡ vs′ → vs₁ ≡ vs₁′ → marks ≡ marks′
+    → Turned s t vs vs₁ marks answer → Turned s t vs′ vs₁′ marks′ answer
+turned-at s t vs vs₁ vs′ vs₁′ marks marks′ answer p q r turned = rw (p, q, r) at turned

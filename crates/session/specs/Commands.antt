@@ -1,4 +1,4 @@
--- A line of commands: 'order a rrddlluu', 'step a', 'arrive a', 'show'.
+-- A line of commands: 'order a rrddlluu', 'step a', 'arrive a', 'way a 5,3 7,1', 'tick 20 d 3', 'show'.
 use mathlib.Core.Bool.{Bool, true, false, cond, _&&_}
 use mathlib.Core.List.{List, []}
 use Prim.Native.Nat.{ℕ, _-_}
@@ -12,6 +12,9 @@ use Rattle.std.specs.declared.option.Option.the-variants.{Some, None}
 use Rattle.text.specs.declared.ways.Way.{Way}
 use Rattle.text.specs.Fields.{is-letter}
 use Rattle.text.specs.Routes.{ways-in}
+use Rattle.session.specs.Numbers.{places-in, ticks-in}
+use Rattle.session.specs.declared.numbers.Place.{Place}
+use Rattle.session.specs.declared.numbers.Ticks.{Ticks}
 use Rattle.session.specs.declared.commands.Verb.{Verb}
 use Rattle.session.specs.declared.commands.Verb.the-variants as verb
 use Rattle.session.specs.declared.commands.Said.{Said}
@@ -19,13 +22,15 @@ use Rattle.session.specs.declared.commands.Said.the-variants as said
 use Rattle.session.specs.declared.commands.Command.{Command}
 use Rattle.session.specs.declared.commands.Command.the-variants as command
 
--- what a line asks for: nothing, what can't be read, an event of a shuttle, the picture
+-- what a line asks for: nothing, what can't be read, an event of a shuttle, its way through squares, ticks, the picture
 pub data Ask : Type 0 where
   nothing : Ask
   unreadable : Ask
   order : ℕ → List Way → Ask
   step : ℕ → Ask
   arrive : ℕ → Ask
+  way : ℕ → List Place → Ask
+  ticks : Ticks → Ask
   show : Ask
 
 -- what a value of the code asks for
@@ -35,6 +40,8 @@ meaning said.Unreadable = unreadable
 meaning (said.Asked (command.Order i ways)) = order i (vec-items ways)
 meaning (said.Asked (command.Step i)) = step i
 meaning (said.Asked (command.Arrive i)) = arrive i
+meaning (said.Asked (command.Way i places)) = way i (vec-items places)
+meaning (said.Asked (command.Tick t)) = ticks t
 meaning (said.Asked command.Show) = show
 
 -- the first word of a command
@@ -43,7 +50,9 @@ verb-of w =
     cond (sameBytes w (codes "order")) (Some verb.Order)
     (cond (sameBytes w (codes "step")) (Some verb.Step)
     (cond (sameBytes w (codes "arrive")) (Some verb.Arrive)
-    (cond (sameBytes w (codes "show")) (Some verb.Show) None)))
+    (cond (sameBytes w (codes "way")) (Some verb.Way)
+    (cond (sameBytes w (codes "tick")) (Some verb.Tick)
+    (cond (sameBytes w (codes "show")) (Some verb.Show) None)))))
 
 -- a shuttle is exactly one letter of a to p
 abbrev pub shuttle-of : List ℕ → Option ℕ
@@ -59,19 +68,31 @@ abbrev pub ordered : ℕ → Option (List Way) → Ask
 ordered i None = unreadable
 ordered i (Some ways) = order i ways
 
--- a command of so many words, with its shuttle and the letters of its route
-abbrev pub asked-by : Verb → (words : ℕ) → Option ℕ → (letters : List ℕ) → Ask
-asked-by verb.Order n s letters = cond (leb n 3) (on-shuttle s (λ i. ordered i (ways-in letters))) unreadable
-asked-by verb.Step n s letters = cond (leb n 2) (on-shuttle s step) unreadable
-asked-by verb.Arrive n s letters = cond (leb n 2) (on-shuttle s arrive) unreadable
-asked-by verb.Show n s letters = cond (leb n 1) show unreadable
+-- a way, if its words stand for squares
+abbrev pub way-asked : ℕ → Option (List Place) → Ask
+way-asked i None = unreadable
+way-asked i (Some places) = way i places
+
+-- ticks, if there are such
+abbrev pub ticks-asked : Option Ticks → Ask
+ticks-asked None = unreadable
+ticks-asked (Some t) = ticks t
+
+-- a command of so many words, with its shuttle, the letters of its route, its words, and the ticks that these would be
+abbrev pub asked-by : Verb → (words : ℕ) → Option ℕ → (letters : List ℕ) → (all : List (List ℕ)) → Option Ticks → Ask
+asked-by verb.Order n s letters ws t = cond (leb n 3) (on-shuttle s (λ i. ordered i (ways-in letters))) unreadable
+asked-by verb.Step n s letters ws t = cond (leb n 2) (on-shuttle s step) unreadable
+asked-by verb.Arrive n s letters ws t = cond (leb n 2) (on-shuttle s arrive) unreadable
+asked-by verb.Way n s letters ws t = on-shuttle s (λ i. way-asked i (places-in ws))
+asked-by verb.Tick n s letters ws t = cond (leb n 4) (ticks-asked t) unreadable
+asked-by verb.Show n s letters ws t = cond (leb n 1) show unreadable
 
 abbrev pub on-verb : Option Verb → (Verb → Ask) → Ask
 on-verb None f = unreadable
 on-verb (Some v) f = f v
 
--- what the words of a line ask for; a missing second word is no shuttle, and a missing third one has no letters
+-- what the words of a line ask for; a missing word is one without letters: no shuttle and no number
 unfoldable pub asked : List (List ℕ) → Ask
 asked ws =
     cond (eqb (length ws) 0) nothing
-    (on-verb (verb-of (getD ws 0 [])) (λ v. asked-by v (length ws) (shuttle-of (getD ws 1 [])) (getD ws 2 [])))
+    (on-verb (verb-of (getD ws 0 [])) (λ v. asked-by v (length ws) (shuttle-of (getD ws 1 [])) (getD ws 2 []) ws (ticks-in (getD ws 1 []) (getD ws 2 []) (getD ws 3 []))))

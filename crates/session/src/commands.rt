@@ -3,10 +3,15 @@ ghost use mathlib.Core.Path.{_≡_};
 ghost use mathlib.Core.List.{[]};
 ghost use lib.ListN.{getD};
 ghost use Rattle.std.specs.Vec.{made};
-ghost use Rattle.std.specs.shelf.Text.{sameBytes};
 ghost use Rattle.text.specs.Lines.{words, pieces};
 ghost use Rattle.text.specs.Routes.{ways-in};
-ghost use Rattle.session.specs.Commands.{meaning, verb-of, shuttle-of, ordered, asked-by, asked};
+ghost use Rattle.session.specs.Numbers.{places-in};
+ghost use Rattle.session.specs.Commands.{meaning, verb-of, shuttle-of, ordered, way-asked, ticks-asked, asked-by, asked};
+use super::numbers::Place;
+use super::numbers::Ticks;
+use super::numbers::is_word;
+use super::numbers::read_places;
+use super::numbers::read_ticks;
 use std::alloc::AllocError;
 use std::alloc::Global;
 use text::Way;
@@ -19,15 +24,19 @@ pub enum Verb {
     Order,
     Step,
     Arrive,
+    Way,
+    Tick,
     Show,
 }
 
-// What is asked for: an event of a shuttle, or the picture of the hall.
+// What is asked for: an event of a shuttle, its way through squares, ticks, or the picture of the hall.
 #[derive(Drop)]
 pub enum Command {
     Order(u64, Vec<Way>),
     Step(u64),
     Arrive(u64),
+    Way(u64, Vec<Place>),
+    Tick(Ticks),
     Show,
 }
 
@@ -39,12 +48,6 @@ pub enum Said {
     Asked(Command),
 }
 
-fn is_word(word: &[u8], name: &str) -> bool
-    ensures { λ r. ⌜ r ≡ sameBytes (now (word .entry)) (now (name .entry)) ⌝ }
-{
-    word == name.as_bytes()
-}
-
 fn read_verb(word: &[u8]) -> Option<Verb>
     ensures { λ r. ⌜ r ≡ verb-of (now (word .entry)) ⌝ }
 {
@@ -54,6 +57,10 @@ fn read_verb(word: &[u8]) -> Option<Verb>
         Some(Verb::Step)
     } else if is_word(word, "arrive") {
         Some(Verb::Arrive)
+    } else if is_word(word, "way") {
+        Some(Verb::Way)
+    } else if is_word(word, "tick") {
+        Some(Verb::Tick)
     } else if is_word(word, "show") {
         Some(Verb::Show)
     } else {
@@ -88,20 +95,44 @@ fn read_order(heap: Global, shuttle: u64, letters: &[u8]) -> Result<Said, AllocE
     }
 }
 
-// A command of so many words, with the shuttle and the letters of its route.
+// A way, if the words past the second stand for squares.
+fn read_asked(heap: Global, shuttle: u64, words: &[&[u8]]) -> Result<Said, AllocError>
+    ensures { λ r. ⌜ made r (λ s. meaning s ≡ way-asked shuttle (places-in (pieces (now (words .entry))))) ⌝ }
+{
+    match read_places(heap, words)? {
+        Some(places) => Ok(Said::Asked(Command::Way(shuttle, places))),
+        None => Ok(Said::Unreadable),
+    }
+}
+
+// Ticks, if there are such.
+fn ticks_said(ticks: Option<Ticks>) -> Said
+    ensures { λ r. ⌜ meaning r ≡ ticks-asked ticks ⌝ }
+{
+    match ticks {
+        Some(ticks) => Said::Asked(Command::Tick(ticks)),
+        None => Said::Unreadable,
+    }
+}
+
+// A command of so many words, with the shuttle, the letters of its route, its words, and the ticks that these would be.
 fn command_of(
     heap: Global,
     verb: Verb,
     count: usize,
     shuttle: Option<u64>,
     letters: &[u8],
+    words: &[&[u8]],
+    ticks: Option<Ticks>,
 ) -> Result<Said, AllocError>
-    ensures { λ r. ⌜ made r (λ s. meaning s ≡ asked-by verb count shuttle (now (letters .entry))) ⌝ }
+    ensures { λ r. ⌜ made r (λ s. meaning s ≡ asked-by verb count shuttle (now (letters .entry)) (pieces (now (words .entry))) ticks) ⌝ }
 {
     match (verb, shuttle) {
         (Verb::Order, Some(i)) if count <= 3 => read_order(heap, i, letters),
         (Verb::Step, Some(i)) if count <= 2 => Ok(Said::Asked(Command::Step(i))),
         (Verb::Arrive, Some(i)) if count <= 2 => Ok(Said::Asked(Command::Arrive(i))),
+        (Verb::Way, Some(i)) => read_asked(heap, i, words),
+        (Verb::Tick, _) if count <= 4 => Ok(ticks_said(ticks)),
         (Verb::Show, _) if count <= 1 => Ok(Said::Asked(Command::Show)),
         _ => Ok(Said::Unreadable),
     }
@@ -121,6 +152,8 @@ fn command_in(heap: Global, all: &[&[u8]]) -> Result<Said, AllocError>
             all.len(),
             read_shuttle(word_at(all, 1)),
             word_at(all, 2),
+            all,
+            read_ticks(word_at(all, 1), word_at(all, 2), word_at(all, 3)),
         ),
         None => Ok(Said::Unreadable),
     }

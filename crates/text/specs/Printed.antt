@@ -6,17 +6,18 @@ use Rattle.std.specs.Written.{decimal}
 use Rattle.route.specs.declared.verdict.Verdict.{Verdict}
 use Rattle.route.specs.declared.verdict.Verdict.the-variants.{Right, WrongAt, OutsideAfter}
 use Rattle.text.specs.declared.answers.Refusal.{Refusal}
-use Rattle.text.specs.declared.answers.Refusal.the-variants.{Field, Event, Line}
+use Rattle.text.specs.declared.answers.Refusal.the-variants.{Field, Event, Line, Squares}
 use Rattle.text.specs.declared.answers.Judgement.{Judgement}
 use Rattle.text.specs.declared.answers.Judgement.the-variants.{Told, Turned}
 use Rattle.text.specs.declared.answers.Answer.{Answer}
 use Rattle.text.specs.declared.answers.Answer.the-variants.{Granted, Not, Refused}
 
--- a field or an event that is turned away, by its number; a line that can't be read, by its number too and its place
+-- a field, an event or squares that are turned away, by their number; a line that can't be read, by its number too and its place
 abbrev pub refusal-text : Refusal → List ℕ
 refusal-text Field = codes "refused 1"
 refusal-text Event = codes "refused 3"
 refusal-text (Line k) = codes "refused 4 at " ++ decimal k
+refusal-text Squares = codes "refused 5"
 
 -- a route that is one; else its first wrong step, or, where none is wrong, how many it has
 abbrev pub verdict-text : Verdict → List ℕ

@@ -4,12 +4,14 @@ ghost use Rattle.text.specs.Printed.{refusal-text, judgement-text, answer-text
 use route::Verdict;
 use std::fmt;
 
-// Why something is turned away: the field is none; the shuttle isn't there or its route is too long; a line can't be read.
+// Why something is turned away: the field is none; the shuttle isn't there or its route is too long; a line can't be read;
+// squares of a way are outside the field or too many.
 #[derive(Clone, Copy)]
 pub enum Refusal {
     Field,
     Event,
     Line(u64),
+    Squares,
 }
 
 // What a line of a route is judged to be.
@@ -35,6 +37,7 @@ pub impl fmt::Display for Refusal as RefusalDisplay {
             Refusal::Field => f.write_str("refused 1"),
             Refusal::Event => f.write_str("refused 3"),
             Refusal::Line(k) => write!(f, "refused 4 at {k}"),
+            Refusal::Squares => f.write_str("refused 5"),
         }
     }
 }

@@ -16,6 +16,7 @@ pub use fields::FieldText;
 pub use fields::read_field;
 pub use fields::rows_in;
 pub use judging::judge_line;
+pub use lines::bytes_before;
 pub use lines::lines_of;
 pub use lines::words_of;
 pub use unread::Unread;

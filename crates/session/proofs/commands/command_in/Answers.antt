@@ -1,10 +1,12 @@
 -- No word, an unknown first word, or a command.
 use mathlib.Core.Path.{_≡_, sym, ap, _∙_}
 use lib.Dec.{eqb}
-use lib.ListN.{length, length-map}
+use lib.ListN.{length, getD, length-map}
+use mathlib.Core.List.{[]}
 use borrow.Author.Tests.{true-eqb}
 use Rattle.std.proofs.shelf.Results.{made-weaker}
 use Rattle.text.specs.Lines.{pieces}
+use Rattle.session.specs.Numbers.{ticks-in}
 use Rattle.session.specs.Commands.{meaning, verb-of, shuttle-of, asked-by, asked}
 use Rattle.session.proofs.Asking.{asked-nothing, asked-unknown, asked-known}
 use Rattle.session.proofs.commands.command_in.Needs as need
@@ -18,13 +20,16 @@ returns-in-Some c =
     let ws = pieces (c .args .all .now) in
     let long = length-map (c .args .all .now) (λ r. r .now) in
     made-weaker (c .command-of .result)
-    (λ s. meaning s ≡ asked-by (c .in-Some .verb) (length (c .args .all .now)) (c .read-shuttle .result) (c .word-at-in-Some-2 .result .now))
+    (λ s. meaning s ≡ asked-by (c .in-Some .verb) (length (c .args .all .now)) (c .read-shuttle .result) (c .word-at-in-Some-2 .result .now) ws (c .read-ticks .result))
     (λ s. meaning s ≡ asked ws)
     (λ s is.
-    is ∙ asked-known ws (c .in-Some .verb) (length (c .args .all .now)) (c .read-shuttle .result) (c .word-at-in-Some-2 .result .now)
+    is ∙ asked-known ws (c .in-Some .verb) (length (c .args .all .now)) (c .read-shuttle .result) (c .word-at-in-Some-2 .result .now) (c .read-ticks .result)
     (c .if-is-empty .ensures tt ∙ ap (λ n. eqb n 0) (sym long))
     (ap verb-of (sym (c .word-at .ensures)) ∙ sym (c .read-verb .ensures) ∙ c .in-Some .is) (sym long)
-    (c .read-shuttle .ensures ∙ ap shuttle-of (c .word-at-in-Some .ensures)) (c .word-at-in-Some-2 .ensures))
+    (c .read-shuttle .ensures ∙ ap shuttle-of (c .word-at-in-Some .ensures)) (c .word-at-in-Some-2 .ensures)
+    (c .read-ticks .ensures ∙ ap (λ w. ticks-in w (c .word-at-in-Some-4 .result .now) (c .word-at-in-Some-5 .result .now)) (c .word-at-in-Some-3 .ensures)
+    ∙ ap (λ w. ticks-in (getD ws 1 []) w (c .word-at-in-Some-5 .result .now)) (c .word-at-in-Some-4 .ensures)
+    ∙ ap (ticks-in (getD ws 1 []) (getD ws 2 [])) (c .word-at-in-Some-5 .ensures)))
     (c .command-of .ensures)
 
 pub returns-in-None : need.returns-in-None

@@ -20,11 +20,36 @@ returns-then-is-word-3 c =
 pub returns-then-is-word-4 : need.returns-then-is-word-4
 unfolding verb-of
 returns-then-is-word-4 c =
-    sym (cond-false _ _ _ (sym (c .if-is-word .ensures tt)) ∙ cond-false _ _ _ (sym (c .if-is-word-2 .ensures tt))
-    ∙ cond-false _ _ _ (sym (c .if-is-word-3 .ensures tt)) ∙ cond-true _ _ _ (sym (c .if-is-word-4 .ensures tt)))
+    sym (cond-false _ _ _ (sym (c .if-is-word .ensures tt))
+    ∙ cond-false _ _ _ (sym (c .if-is-word-2 .ensures tt))
+    ∙ cond-false _ _ _ (sym (c .if-is-word-3 .ensures tt))
+    ∙ cond-true _ _ _ (sym (c .if-is-word-4 .ensures tt)))
 
-pub returns-else-is-word-4 : need.returns-else-is-word-4
+pub returns-then-is-word-5 : need.returns-then-is-word-5
 unfolding verb-of
-returns-else-is-word-4 c =
-    sym (cond-false _ _ _ (sym (c .if-is-word .ensures tt)) ∙ cond-false _ _ _ (sym (c .if-is-word-2 .ensures tt))
-    ∙ cond-false _ _ _ (sym (c .if-is-word-3 .ensures tt)) ∙ cond-false _ _ _ (sym (c .if-is-word-4 .ensures tt)))
+returns-then-is-word-5 c =
+    sym (cond-false _ _ _ (sym (c .if-is-word .ensures tt))
+    ∙ cond-false _ _ _ (sym (c .if-is-word-2 .ensures tt))
+    ∙ cond-false _ _ _ (sym (c .if-is-word-3 .ensures tt))
+    ∙ cond-false _ _ _ (sym (c .if-is-word-4 .ensures tt))
+    ∙ cond-true _ _ _ (sym (c .if-is-word-5 .ensures tt)))
+
+pub returns-then-is-word-6 : need.returns-then-is-word-6
+unfolding verb-of
+returns-then-is-word-6 c =
+    sym (cond-false _ _ _ (sym (c .if-is-word .ensures tt))
+    ∙ cond-false _ _ _ (sym (c .if-is-word-2 .ensures tt))
+    ∙ cond-false _ _ _ (sym (c .if-is-word-3 .ensures tt))
+    ∙ cond-false _ _ _ (sym (c .if-is-word-4 .ensures tt))
+    ∙ cond-false _ _ _ (sym (c .if-is-word-5 .ensures tt))
+    ∙ cond-true _ _ _ (sym (c .if-is-word-6 .ensures tt)))
+
+pub returns-else-is-word-6 : need.returns-else-is-word-6
+unfolding verb-of
+returns-else-is-word-6 c =
+    sym (cond-false _ _ _ (sym (c .if-is-word .ensures tt))
+    ∙ cond-false _ _ _ (sym (c .if-is-word-2 .ensures tt))
+    ∙ cond-false _ _ _ (sym (c .if-is-word-3 .ensures tt))
+    ∙ cond-false _ _ _ (sym (c .if-is-word-4 .ensures tt))
+    ∙ cond-false _ _ _ (sym (c .if-is-word-5 .ensures tt))
+    ∙ cond-false _ _ _ (sym (c .if-is-word-6 .ensures tt)))

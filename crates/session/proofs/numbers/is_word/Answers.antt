@@ -3,7 +3,7 @@ use mathlib.Core.Path.{ap, _∙_}
 use Rattle.std.specs.shelf.Text.{sameBytes}
 use Rattle.std.proofs.shelf.Equals.{matches-decides, sameBytes-decides}
 use Rattle.std.proofs.shelf.Ways.{same-from-decides}
-use Rattle.session.proofs.commands.is_word.Needs as need
+use Rattle.session.proofs.numbers.is_word.Needs as need
 
 pub returns : need.returns
 returns c =
