@@ -27,7 +27,7 @@ unfolding number refusal-of
 returns-then-not-is-event c =
     let a = c .args in
     let why = refused-event (a .across) (a .down) (a .walls .now) (a .bays .now) (a .memory .now) (a .kind) (a .shuttle) (a .route .now) (sym (c .is-field .ensures) ∙ c .if-not-is-field .left) (sym (c .is-memory .ensures) ∙ c .if-not-is-memory .left)
-      (sym (c .is-event .ensures) ∙ c .if-not-is-event .taken) in
+    (sym (c .is-event .ensures) ∙ c .if-not-is-event .taken) in
     let k = says-refused (a .across) (a .down) (a .walls .now) (a .bays .now) (a .memory .now) (a .kind) (a .shuttle) (a .route .now) 2 why in
     record { says = k .says; refuses = sym why; stays = k .stays; less = k .less; falls = k .falls }
 
