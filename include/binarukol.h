@@ -47,7 +47,7 @@ extern "C" {
 #define BINARUKOL_STEP 1   /* a shuttle that stands asks for the next square of its route */
 #define BINARUKOL_ARRIVE 2 /* a shuttle that moves has come to its square */
 
-/* Answers. Only the low 8 bits are used today; the bits above are 0. */
+/* Answers: the low 8 bits. The bits above are 0 but where way and tick say otherwise. */
 #define BINARUKOL_ANSWER(result) ((result) & 0xff)
 #define BINARUKOL_HAPPENED 0        /* the order is taken, the step granted, the arrival noted, the start written */
 #define BINARUKOL_NOT 1             /* it is not: nothing was changed; a step may be asked for again later */
@@ -55,6 +55,12 @@ extern "C" {
 #define BINARUKOL_REFUSED_MEMORY 18 /* memory is not acceptable; nothing was changed */
 #define BINARUKOL_REFUSED_EVENT 19  /* there is no such event or shuttle, or the route is past a limit; nothing was
                                        changed */
+#define BINARUKOL_FOUND 2           /* of way: there is a route; its length is in the bits above */
+#define BINARUKOL_REFUSED_WAY 21    /* of way: what is asked for is past a limit; nothing was changed */
+#define BINARUKOL_REFUSED_TURNS 22  /* of tick: waits or due are not acceptable; nothing was changed */
+
+/* What stands above the low 8 bits: the length of a route of way, the shuttle of tick, else 0. */
+#define BINARUKOL_ABOVE(result) ((result) >> 8)
 
 /*
  * Lets one event happen, if it may, and changes memory accordingly.
@@ -94,6 +100,49 @@ uint64_t happen(uint64_t across, uint64_t down, const uint8_t *walls, size_t wal
  */
 uint64_t start(uint64_t across, uint64_t down, const uint8_t *walls, size_t walls_len, const uint16_t *bays,
                size_t bays_len, uint16_t *memory, size_t memory_len);
+
+/*
+ * Finds a route: as short as any of at most 256 squares that leads from a square through a row of squares, in their
+ * order, to the shuttle's bay; of these the first by right, down, left, up, compared step by step. A square of the row
+ * may be met more than once and counts from the first time; the square that the route starts from counts too. Other
+ * shuttles don't matter.
+ *
+ * across, down, walls, bays and their lengths are those of happen.
+ *
+ * shuttle    whose route it is, from 0
+ * from       the square that it starts from: no wall and nobody else's bay
+ * row        the squares to go to, each within the field
+ * row_len    how many there are, 0 to 8
+ * route      256 places; as many as the route has squares are written if there is one, and none else
+ * route_len  256
+ *
+ * Answers BINARUKOL_FOUND with the length above it, or BINARUKOL_NOT if there is no such route, or the first of
+ * BINARUKOL_REFUSED_FIELD, BINARUKOL_REFUSED_EVENT for a shuttle that isn't there, and BINARUKOL_REFUSED_WAY that
+ * applies.
+ */
+uint64_t way(uint64_t across, uint64_t down, const uint8_t *walls, size_t walls_len, const uint16_t *bays,
+             size_t bays_len, uint64_t shuttle, uint16_t from, const uint16_t *row, size_t row_len, uint16_t *route,
+             size_t route_len);
+
+/*
+ * One tick: the arrivals that are due are made, the waits counted, and one step is granted: of the shuttles whose
+ * steps would be, that which has waited longest, of equals the lowest.
+ *
+ * across, down, walls, bays, memory and their lengths are those of happen.
+ *
+ * waits      for each shuttle how many ticks it has waited: begin with 0. One that stands with something left waits
+ *            one tick more, any other has not waited, and one whose step is granted begins again
+ * waits_len  bays_len
+ * due        for each shuttle 1 if it has come to its square, else 0; of one that doesn't move it means nothing
+ * due_len    bays_len
+ *
+ * Answers BINARUKOL_HAPPENED with the shuttle above it whose step was granted, or BINARUKOL_NOT if no step was, or
+ * the first of BINARUKOL_REFUSED_FIELD, BINARUKOL_REFUSED_MEMORY and BINARUKOL_REFUSED_TURNS that applies, which is
+ * for other lengths, other marks, or a wait that could not count on.
+ */
+uint64_t tick(uint64_t across, uint64_t down, const uint8_t *walls, size_t walls_len, const uint16_t *bays,
+              size_t bays_len, uint16_t *memory, size_t memory_len, uint64_t *waits, size_t waits_len,
+              const uint8_t *due, size_t due_len);
 
 #ifdef __cplusplus
 }

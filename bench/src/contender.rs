@@ -1,6 +1,9 @@
-//! What is measured: functions that take the same arguments in the same way as the library does.
+//! Events: functions that take the same arguments in the same way as the library does.
 
-use crate::halls::Case;
+use crate::case::{Case, Contender};
+use crate::halls::Event;
+use crate::plain::PER_SHUTTLE;
+use std::ops::Range;
 
 pub type Happen = unsafe extern "C" fn(
     across: u64,
@@ -17,29 +20,50 @@ pub type Happen = unsafe extern "C" fn(
     route_len: usize,
 ) -> u64;
 
-#[derive(Clone, Copy)]
-pub struct Contender {
-    pub name: &'static str,
-    happen: Happen,
+impl Event {
+    /// The part of memory that a call may change.
+    fn part(&self) -> Range<usize> {
+        let i = self.shuttle as usize;
+        PER_SHUTTLE * i..PER_SHUTTLE * (i + 1)
+    }
 }
 
-impl Contender {
-    pub fn call(&self, case: &Case, memory: &mut [u16]) -> u64 {
+impl Case for Event {
+    type Function = Happen;
+    type Lent = Vec<u16>;
+
+    fn name(&self) -> &str {
+        &self.name
+    }
+
+    fn answer(&self) -> u64 {
+        self.answer
+    }
+
+    fn lent(&self) -> Vec<u16> {
+        self.memory.clone()
+    }
+
+    fn put_back(&self, memory: &mut Vec<u16>) {
+        memory[self.part()].copy_from_slice(&self.memory[self.part()]);
+    }
+
+    fn call(&self, happen: Happen, memory: &mut Vec<u16>) -> u64 {
         // SAFETY: each pointer and length are those of one slice, and only memory is written.
         unsafe {
-            (self.happen)(
-                case.across,
-                case.down,
-                case.walls.as_ptr(),
-                case.walls.len(),
-                case.bays.as_ptr(),
-                case.bays.len(),
+            happen(
+                self.across,
+                self.down,
+                self.walls.as_ptr(),
+                self.walls.len(),
+                self.bays.as_ptr(),
+                self.bays.len(),
                 memory.as_mut_ptr(),
                 memory.len(),
-                case.kind,
-                case.shuttle,
-                case.route.as_ptr(),
-                case.route.len(),
+                self.kind,
+                self.shuttle,
+                self.route.as_ptr(),
+                self.route.len(),
             )
         }
     }
@@ -102,11 +126,11 @@ mod library {
 }
 
 /// Plain Rust comes first: the others are compared with it.
-pub fn all() -> Vec<Contender> {
+pub fn all() -> Vec<Contender<Happen>> {
     vec![
-        Contender { name: "plain", happen: plain },
+        Contender { name: "plain", function: plain },
         #[cfg(feature = "library")]
-        Contender { name: "library", happen: library::happen },
-        Contender { name: "tuned", happen: tuned },
+        Contender { name: "library", function: library::happen },
+        Contender { name: "tuned", function: tuned },
     ]
 }

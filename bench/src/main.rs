@@ -1,49 +1,60 @@
-//! Times of the library beside plain Rust of the same algorithm with the same checks, and beside a tuned variant.
+//! Times of the library beside plain Rust of the same algorithm with the same checks, and beside a tuned variant; how
+//! many ticks nights take beside the bound; and what the rule is worth in a hall. Prints it as one document.
 
+mod case;
+mod chart;
 mod contender;
 mod halls;
+mod maze;
 mod measure;
+mod nights;
 mod plain;
+mod plain_tick;
+mod plain_way;
+mod random;
+mod rules;
+mod throughput;
+mod ticks;
 mod tuned;
+mod warehouse;
+mod ways;
 
-use contender::Contender;
-use halls::Case;
+use case::{Case, Contender};
 use std::process::ExitCode;
 
 fn main() -> ExitCode {
-    let contenders = contender::all();
-    let cases = halls::all();
-    for case in &cases {
-        if let Err(fault) = agree(&contenders, case) {
+    match print_all(std::env::args().nth(1).as_deref()) {
+        Ok(()) => ExitCode::SUCCESS,
+        Err(fault) => {
             eprintln!("{fault}");
-            return ExitCode::FAILURE;
+            ExitCode::FAILURE
         }
     }
-    println!("One whole call; median of many turns, the contenders in turns within one run, all buffers warm.");
-    println!("Times in nanoseconds for plain Rust; the others as multiples of it.\n");
-    let others: Vec<&str> = contenders[1..].iter().map(|contender| contender.name).collect();
-    println!("| Case | plain, ns | {} |", others.join(" | "));
-    println!("|---|---:|{}", "---:|".repeat(others.len()));
-    for case in &cases {
-        let measured = measure::measure(&contenders, case);
-        let ratios: Vec<String> = measured.others.iter().map(|ratio| format!("{ratio:.2}")).collect();
-        println!("| {} | {:.0} | {} |", case.name, measured.first, ratios.join(" | "));
-    }
-    ExitCode::SUCCESS
 }
 
-/// Contenders are worth comparing only if they do the same.
-fn agree(contenders: &[Contender], case: &Case) -> Result<(), String> {
-    let mut expected = None;
-    for contender in contenders {
-        let mut memory = case.memory.clone();
-        let answer = contender.call(case, &mut memory);
-        if answer != case.answer {
-            return Err(format!("{}: {} answers {answer}, not {}", case.name, contender.name, case.answer));
-        }
-        if *expected.get_or_insert_with(|| memory.clone()) != memory {
-            return Err(format!("{}: {} leaves another memory than plain Rust", case.name, contender.name));
-        }
+/// With the name of a file the picture is written to it.
+fn print_all(picture: Option<&str>) -> Result<(), String> {
+    println!("# Measured\n\n## Times\n");
+    println!("One whole call; median of many turns, the contenders in turns within one run, all buffers warm.");
+    println!("Times in nanoseconds for plain Rust; the others as multiples of it.");
+    print_times("Event", &contender::all(), &halls::all())?;
+    print_times("Shortest route", &ways::contenders(), &ways::all())?;
+    print_times("Tick", &ticks::contenders(), &ticks::all())?;
+    nights::print();
+    let lines = throughput::all();
+    throughput::print(&lines);
+    picture.map_or(Ok(()), |name| std::fs::write(name, chart::svg(&lines)).map_err(|error| format!("{name}: {error}")))
+}
+
+fn print_times<C: Case>(title: &str, contenders: &[Contender<C::Function>], cases: &[C]) -> Result<(), String> {
+    cases.iter().try_for_each(|case| case::agree(contenders, case))?;
+    let others: String = contenders[1..].iter().map(|contender| format!(" {} |", contender.name)).collect();
+    println!("\n| {title} | plain, ns |{others}");
+    println!("|---|---:|{}", "---:|".repeat(contenders.len() - 1));
+    for case in cases {
+        let measured = measure::measure(contenders, case);
+        let ratios: String = measured.others.iter().map(|ratio| format!(" {ratio:.2} |")).collect();
+        println!("| {} | {:.0} |{ratios}", case.name(), measured.first);
     }
     Ok(())
 }

@@ -1,8 +1,6 @@
 //! Times of all contenders on one case, in turns.
 
-use crate::contender::Contender;
-use crate::halls::Case;
-use crate::plain::PER_SHUTTLE;
+use crate::case::{Case, Contender};
 use std::hint::black_box;
 use std::time::{Duration, Instant};
 
@@ -20,16 +18,16 @@ pub struct Measured {
 
 /// A ratio is the median of the ratios of turns that follow each other, so that what slows the machine down for a
 /// while slows both.
-pub fn measure(contenders: &[Contender], case: &Case) -> Measured {
-    let mut buffer = case.memory.clone();
-    let calls = calls_in_a_turn(&contenders[0], case, &mut buffer);
-    let restoring = median((0..TURNS).map(|_| turn_of(case, &mut buffer, calls, |_, _| 0)).collect());
+pub fn measure<C: Case>(contenders: &[Contender<C::Function>], case: &C) -> Measured {
+    let mut lent = case.lent();
+    let calls = calls_in_a_turn(case, &mut lent, contenders[0].function);
+    let restoring = median((0..TURNS).map(|_| turn_of(case, &mut lent, calls, None)).collect());
     let mut times = vec![Vec::with_capacity(TURNS); contenders.len()];
     for turn in 0..TURNS {
         // Another one begins each time, so that none always follows the same other one.
         for k in 0..contenders.len() {
             let k = (k + turn) % contenders.len();
-            let time = turn_of(case, &mut buffer, calls, |case, buffer| contenders[k].call(case, buffer));
+            let time = turn_of(case, &mut lent, calls, Some(contenders[k].function));
             times[k].push(time - restoring);
         }
     }
@@ -38,21 +36,20 @@ pub fn measure(contenders: &[Contender], case: &Case) -> Measured {
     Measured { first: median(times[0].clone()), others }
 }
 
-fn calls_in_a_turn(contender: &Contender, case: &Case, buffer: &mut [u16]) -> usize {
-    let few = 200;
-    turn_of(case, buffer, few, |case, buffer| contender.call(case, buffer));
-    let one = turn_of(case, buffer, few, |case, buffer| contender.call(case, buffer));
+fn calls_in_a_turn<C: Case>(case: &C, lent: &mut C::Lent, function: C::Function) -> usize {
+    let few = 20;
+    turn_of(case, lent, few, Some(function));
+    let one = turn_of(case, lent, few, Some(function));
     (TURN.as_nanos() as f64 / one) as usize + 1
 }
 
-/// Nanoseconds for one call. The part of memory that a call may change is put back before each, which costs all the
-/// same; the time for that alone is taken away afterwards.
-fn turn_of(case: &Case, buffer: &mut [u16], calls: usize, call: impl Fn(&Case, &mut [u16]) -> u64) -> f64 {
-    let part = PER_SHUTTLE * case.shuttle as usize..PER_SHUTTLE * (case.shuttle as usize + 1);
+/// Nanoseconds for one call. What a call may change is put back before each, which costs all the same; the time for
+/// that alone, taken without a function, is taken away afterwards.
+fn turn_of<C: Case>(case: &C, lent: &mut C::Lent, calls: usize, function: Option<C::Function>) -> f64 {
     let begun = Instant::now();
     for _ in 0..calls {
-        black_box(&mut *buffer)[part.clone()].copy_from_slice(&case.memory[part.clone()]);
-        black_box(call(black_box(case), black_box(buffer)));
+        black_box(case).put_back(black_box(&mut *lent));
+        black_box(function.map(|function| black_box(case).call(function, black_box(&mut *lent))));
     }
     begun.elapsed().as_nanos() as f64 / calls as f64
 }

@@ -11,20 +11,20 @@ const WRONG_MEMORY: u64 = 18;
 const WRONG_EVENT: u64 = 19;
 
 #[derive(Clone, Copy, Default)]
-struct Shuttle {
-    square: u16,
-    moves: bool,
+pub struct Shuttle {
+    pub square: u16,
+    pub moves: bool,
     behind: u16,
-    length: u16,
+    pub length: u16,
 }
 
 impl Shuttle {
-    fn holds(self, square: u16) -> bool {
+    pub fn holds(self, square: u16) -> bool {
         self.square == square || (self.moves && self.behind == square)
     }
 }
 
-type Fleet = [Shuttle; 16];
+pub type Fleet = [Shuttle; 16];
 
 #[allow(clippy::too_many_arguments)]
 pub fn happen(
@@ -50,7 +50,7 @@ pub fn happen(
     let fleet = fleet(memory);
     let happened = match kind {
         0 => order(across as u16, walls, bays, fleet[i], i, memory, route),
-        1 => step(fleet, bays.len(), i, memory),
+        1 => step(&fleet, bays.len(), i, memory),
         _ => arrive(fleet[i], i, memory),
     };
     if happened { HAPPENED } else { NOT }
@@ -69,7 +69,7 @@ pub fn field_fits(across: u64, down: u64, walls: &[u8], bays: &[u16]) -> bool {
         .all(|(i, &bay)| walls.get(usize::from(bay)).is_some_and(|&mark| mark == 0) && !bays[..i].contains(&bay))
 }
 
-fn memory_fits(squares: usize, shuttles: usize, memory: &[u16]) -> bool {
+pub fn memory_fits(squares: usize, shuttles: usize, memory: &[u16]) -> bool {
     memory.len() == PER_SHUTTLE * shuttles && memory.chunks_exact(PER_SHUTTLE).all(|part| part_fits(squares, part))
 }
 
@@ -90,7 +90,7 @@ pub fn event_fits(kind: u64, shuttle: u64, shuttles: usize, route: &[u16]) -> bo
         && route.iter().fold(0, |top, &square| top.max(square)) <= 4095
 }
 
-fn fleet(memory: &[u16]) -> Fleet {
+pub fn fleet(memory: &[u16]) -> Fleet {
     let mut fleet = Fleet::default();
     for (shuttle, part) in fleet.iter_mut().zip(memory.chunks_exact(PER_SHUTTLE)) {
         *shuttle = Shuttle { square: part[0], moves: part[1] == 1, behind: part[2], length: part[3] };
@@ -137,7 +137,15 @@ fn beside(across: u16, one: u16, other: u16) -> bool {
     high - low == across || (high - low == 1 && low / across == high / across)
 }
 
-fn step(mut fleet: Fleet, shuttles: usize, i: usize, memory: &mut [u16]) -> bool {
+fn step(fleet: &Fleet, shuttles: usize, i: usize, memory: &mut [u16]) -> bool {
+    let granted = is_granted(fleet, shuttles, i, memory);
+    if granted {
+        write_step(&mut memory[PER_SHUTTLE * i..PER_SHUTTLE * (i + 1)]);
+    }
+    granted
+}
+
+pub fn is_granted(fleet: &Fleet, shuttles: usize, i: usize, memory: &[u16]) -> bool {
     let Shuttle { square, moves, length, .. } = fleet[i];
     if moves || length == 0 {
         return false;
@@ -146,14 +154,15 @@ fn step(mut fleet: Fleet, shuttles: usize, i: usize, memory: &mut [u16]) -> bool
     if fleet[..shuttles].iter().enumerate().any(|(j, other)| j != i && other.holds(next)) {
         return false;
     }
-    fleet[i] = Shuttle { square: next, moves: true, behind: square, length: length - 1 };
-    if !safe(&fleet[..shuttles], i, memory) {
-        return false;
-    }
-    let part = &mut memory[PER_SHUTTLE * i..PER_SHUTTLE * (i + 1)];
+    let mut after = *fleet;
+    after[i] = Shuttle { square: next, moves: true, behind: square, length: length - 1 };
+    safe(&after[..shuttles], i, memory)
+}
+
+pub fn write_step(part: &mut [u16]) {
+    let (square, length, next) = (part[0], part[3], part[PLACES]);
     part[..PLACES].copy_from_slice(&[next, 1, square, length - 1]);
     part.copy_within(PLACES + 1..PLACES + usize::from(length), PLACES);
-    true
 }
 
 /// Whether all is safe. Memory is still as it was before the step of shuttle `stepped`, whose first square is gone.

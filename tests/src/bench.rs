@@ -1,10 +1,10 @@
 //! The Rust variants that the library's speed is measured beside: they must do the same, or their times say nothing.
 
 use crate::compare::{self, Extent};
-use crate::entry::{Entry, EventNumbers, FieldNumbers};
+use crate::entry::{AskedNumbers, Entry, EventNumbers, FieldNumbers, Ticks, Ways};
 use crate::report::Group;
 use crate::wrong::copy::RulesCopy;
-use crate::{plain, tuned};
+use crate::{plain, plain_tick, plain_way, ticks, tuned, ways};
 
 type Happen = fn(u64, u64, &[u8], &[u16], &mut [u16], u64, u64, &[u16]) -> u64;
 
@@ -32,4 +32,28 @@ pub fn all(extent: Extent) -> Vec<Group> {
         compare::all(&mut variant, extent).into_iter().map(named)
     };
     variants.into_iter().flat_map(groups).collect()
+}
+
+struct Plain;
+
+impl Ways for Plain {
+    fn way(&mut self, field: FieldNumbers, asked: AskedNumbers, route: &mut [u16]) -> u64 {
+        let FieldNumbers { across, down, walls, bays } = field;
+        plain_way::way(across, down, walls, bays, asked.shuttle, asked.from, asked.row, route)
+    }
+}
+
+impl Ticks for Plain {
+    fn tick(&mut self, field: FieldNumbers, memory: &mut [u16], waits: &mut [u64], due: &[u8]) -> u64 {
+        let FieldNumbers { across, down, walls, bays } = field;
+        plain_tick::tick(across, down, walls, bays, memory, waits, due)
+    }
+}
+
+pub fn all_ways(extent: Extent) -> Vec<Group> {
+    ways::all(&mut Plain, extent)
+}
+
+pub fn all_ticks(extent: Extent) -> Vec<Group> {
+    ticks::all(&mut Plain, extent)
 }

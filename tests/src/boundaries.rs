@@ -19,7 +19,7 @@ pub struct Call {
 impl Call {
     /// A call that is not refused: shuttles stand in bays spread over the field, with so many squares left, each
     /// the last of the field.
-    fn good(size: Size, left: usize, kind: u64) -> Call {
+    pub fn good(size: Size, left: usize, kind: u64) -> Call {
         let Size { across, down, shuttles, margin } = size;
         let squares = across * down;
         let room = squares - 1 - 2 * margin;
@@ -48,18 +48,18 @@ impl Call {
 /// The size of a field and how many shuttles it has. Their bays leave so many squares free at either end: without
 /// any the first and the last square are bays, and with some a wrong mark can stand there that is on no bay.
 #[derive(Clone, Copy)]
-struct Size {
+pub struct Size {
     across: usize,
     down: usize,
     shuttles: usize,
     margin: usize,
 }
 
-const fn size(across: usize, down: usize, shuttles: usize, margin: usize) -> Size {
+pub const fn size(across: usize, down: usize, shuttles: usize, margin: usize) -> Size {
     Size { across, down, shuttles, margin }
 }
 
-const SIZES: [Size; 11] = [
+pub const SIZES: [Size; 11] = [
     size(1, 1, 1, 0),
     size(2, 1, 2, 0),
     size(4, 2, 2, 0),
@@ -120,7 +120,8 @@ fn check(pair: &mut Pair, good: &Call, changes: &[&Change]) -> Result<(), Differ
     right(answer, looked_at.map(|change| change.refusal).min()).map_err(told)
 }
 
-fn right(answer: u64, refusal: Option<u64>) -> Result<(), Difference> {
-    let expected = refusal.map_or(answer < 16, |number| answer == refused(number));
+/// Whether the answer is the refusal that the changes ask for, or none if they ask for none.
+pub fn right(answer: u64, refusal: Option<u64>) -> Result<(), Difference> {
+    let expected = refusal.map_or(answer & 0xff < 16, |number| answer == refused(number));
     if expected { Ok(()) } else { Err(format!("both answer {answer}, but by the rules the refusal is {refusal:?}")) }
 }

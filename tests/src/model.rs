@@ -4,6 +4,7 @@
 mod judge;
 mod play;
 mod text;
+mod turns;
 
 pub use judge::judge;
 pub use play::play;
@@ -18,6 +19,7 @@ use text::Lines;
 pub enum Refusal {
     NoField,
     NoEvent,
+    NoWay,
     /// With the number of the line.
     Unreadable(usize),
 }
@@ -27,6 +29,7 @@ impl Refusal {
         match self {
             Refusal::NoField => output.push_str("refused 1\n"),
             Refusal::NoEvent => output.push_str("refused 3\n"),
+            Refusal::NoWay => output.push_str("refused 5\n"),
             Refusal::Unreadable(line) => output.push_str(&format!("refused 4 at {line}\n")),
         }
     }
@@ -39,6 +42,19 @@ fn plan_of(rows: &[&[u8]]) -> Result<Plan, String> {
         refusal.print(&mut output);
         output
     })
+}
+
+/// The number in a word of digits. One that is too large for any limit is as good as the largest.
+fn number(word: &[u8]) -> Option<usize> {
+    let digit = |byte: &u8| byte.is_ascii_digit().then(|| usize::from(byte - b'0'));
+    let digits: Vec<usize> = word.iter().map(digit).collect::<Option<_>>()?;
+    (!digits.is_empty())
+        .then(|| digits.iter().fold(0, |all: usize, digit| all.saturating_mul(10).saturating_add(*digit)))
+}
+
+/// The way from a square to one beside it, as a letter.
+fn letter(field: &Field, from: u16, to: u16) -> Option<char> {
+    "lrud".chars().find(|&letter| way(letter as u8).and_then(|way| field.toward(from, way)) == Some(to))
 }
 
 fn way(letter: u8) -> Option<Way> {

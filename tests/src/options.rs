@@ -1,8 +1,8 @@
 //! The command line: words, and options with a value each.
 
 use crate::compare::Kind;
+use crate::texts::Commands;
 
-#[derive(Default)]
 pub struct Options {
     words: Vec<String>,
     pub seed: u64,
@@ -10,11 +10,19 @@ pub struct Options {
     pub kind: Option<Kind>,
     pub hall: Option<u64>,
     pub only: Option<u64>,
+    pub commands: Commands,
+}
+
+impl Default for Options {
+    fn default() -> Options {
+        let commands = Commands { way: true, tick: true };
+        Options { words: Vec::new(), seed: 1, cases: None, kind: None, hall: None, only: None, commands }
+    }
 }
 
 impl Options {
     pub fn read(mut args: impl Iterator<Item = String>) -> Result<Options, String> {
-        let mut options = Options { seed: 1, ..Options::default() };
+        let mut options = Options::default();
         while let Some(word) = args.next() {
             if !word.starts_with("--") {
                 options.words.push(word);
@@ -26,8 +34,10 @@ impl Options {
                 "--cases" => options.cases = Some(number(&value)?),
                 "--hall" => options.hall = Some(number(&value)?),
                 "--only" => options.only = Some(number(&value)?),
+                "--without" if value == "way" => options.commands.way = false,
+                "--without" if value == "tick" => options.commands.tick = false,
                 "--kind" => options.kind = Some(Kind::named(&value).ok_or(format!("no kind {value}"))?),
-                _ => return Err(format!("unknown option {word}")),
+                _ => return Err(format!("unknown option {word} {value}")),
             }
         }
         if options.hall.is_some() && options.kind.is_none() {

@@ -29,11 +29,20 @@ impl Plan {
     /// A field of random size with random walls and up to sixteen bays. Most are small, so that shuttles meet.
     pub fn random(random: &mut Random) -> Plan {
         let (across, down) = size(random);
+        Plan::of_size(random, across, down)
+    }
+
+    pub fn of_size(random: &mut Random, across: usize, down: usize) -> Plan {
         let wall_share = *random.pick(&[0, 0, 10, 20, 35]);
         let mut walls: Vec<u8> = (0..across * down).map(|_| u8::from(random.below(100) < wall_share)).collect();
         if !walls.contains(&0) {
             walls[0] = 0;
         }
+        Plan::with_bays(random, across, walls)
+    }
+
+    /// Bays on some of the free squares, of which there is at least one.
+    pub fn with_bays(random: &mut Random, across: usize, walls: Vec<u8>) -> Plan {
         let mut free: Vec<u16> = (0..walls.len()).filter(|&c| walls[c] == 0).map(|c| c as u16).collect();
         random.shuffle(&mut free);
         // A field full of bays leaves no room for routes; it is tried, but seldom.
@@ -41,7 +50,7 @@ impl Plan {
         let few = if random.one_in(100) { 0 } else { 1 };
         let bays = random.between(few, room.min(16));
         free.truncate(bays);
-        Plan { across: across as u64, down: down as u64, walls, bays: free }
+        Plan { across: across as u64, down: (walls.len() / across) as u64, walls, bays: free }
     }
 }
 
@@ -78,7 +87,8 @@ fn neighbours(field: &Field, square: u16) -> impl Iterator<Item = u16> {
     Way::ALL.into_iter().filter_map(move |way| field.toward(square, way))
 }
 
-fn is_open(field: &Field, square: u16) -> bool {
+/// Free, and nobody's bay.
+pub fn is_open(field: &Field, square: u16) -> bool {
     field.is_free(square) && !field.bays.contains(&square)
 }
 

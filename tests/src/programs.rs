@@ -3,7 +3,7 @@
 use crate::model;
 use crate::random::Random;
 use crate::report::Group;
-use crate::texts::{self, Program};
+use crate::texts::{self, Commands, Program};
 use std::fs::{self, File};
 use std::io;
 use std::path::{Path, PathBuf};
@@ -34,9 +34,9 @@ impl Programs {
         Ok(Programs { judge: fs::canonicalize(judge)?, play: fs::canonicalize(play)?, folder })
     }
 
-    pub fn all(&self, seed: u64, count: u64, only: Option<u64>) -> Vec<Group> {
+    pub fn all(&self, commands: Commands, seed: u64, count: u64, only: Option<u64>) -> Vec<Group> {
         let mut groups = Vec::new();
-        for program in [Program::Judge, Program::Play] {
+        for program in [Program::Judge, Program::Play(commands)] {
             groups.push(self.random_texts(program, seed, count, only));
             if only.is_none() {
                 groups.push(self.long_lines(program));
@@ -96,7 +96,7 @@ impl Programs {
     fn path(&self, program: Program) -> &Path {
         match program {
             Program::Judge => &self.judge,
-            Program::Play => &self.play,
+            Program::Play(_) => &self.play,
         }
     }
 
@@ -151,14 +151,14 @@ impl Drop for Programs {
 }
 
 pub fn random_text(program: Program, seed: u64, number: u64) -> Vec<u8> {
-    let mut random = Random::for_case(seed, 2 * number + u64::from(program == Program::Play));
+    let mut random = Random::for_case(seed, 2 * number + u64::from(program != Program::Judge));
     texts::text(&mut random, program)
 }
 
 pub fn expected(program: Program, text: &[u8]) -> Vec<u8> {
     match program {
         Program::Judge => model::judge(text),
-        Program::Play => model::play(text),
+        Program::Play(commands) => model::play(text, commands),
     }
 }
 

@@ -5,6 +5,9 @@ pub mod field;
 pub mod fleet;
 pub mod route;
 pub mod safety;
+pub mod tick;
+pub mod walks;
+pub mod way;
 
 use crate::entry::{
     self, ARRIVE, Entry, EventNumbers, FieldNumbers, HAPPENED, MOST_LEFT, NOT, ORDER, PER_SHUTTLE, STEP,

@@ -95,7 +95,7 @@ fn home_route(random: &mut Random, hall: &Hall, shuttle: usize) -> Vec<u16> {
     route
 }
 
-fn memory(random: &mut Random, plan: &Plan, stepping: usize) -> Vec<u16> {
+pub fn memory(random: &mut Random, plan: &Plan, stepping: usize) -> Vec<u16> {
     let mut memory = vec![u16::MAX; PER_SHUTTLE * plan.bays.len()];
     for (i, shuttle) in fleet(random, plan, stepping).iter().enumerate() {
         shuttle.write(part_of_mut(&mut memory, i));

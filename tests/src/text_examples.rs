@@ -2,6 +2,7 @@
 
 use crate::model::{judge, play};
 use crate::report::Group;
+use crate::texts::Commands;
 
 struct Example {
     input: &'static [u8],
@@ -70,6 +71,49 @@ const PLAY: &[Example] = &[
         "refused 3\nrefused 3\nrefused 3\nrefused 4 at 5\nrefused 4 at 6\n",
     ),
     example(b"a.\r\n\r\nshow\r\nshow\r", "A.\nrefused 4 at 3\n"),
+    // Ways: from the bay wherever the shuttle is, into letters that an order takes.
+    example(
+        b"a..b\n.#..\n....\n\nway a\nway a 0,0\nway a 2,2\nway a 2,2 2,0\nway a 1,1\nway a 3,0\nway b 3,0 3,1\n",
+        "\n\nrrddlluu\nrrdduull\nnone\nnone\ndu\n",
+    ),
+    example(
+        b"a..\n\nway a 2,0\norder a rrll\nstep a\nway  a  02,000 \nshow\n",
+        "rrll\ngranted\ngranted\nrrll\nAA.\n",
+    ),
+    example(
+        b"a..\n\nway a 3,0\nway a 0,1\nway a 1,0 1,0 1,0 1,0 1,0 1,0 1,0 1,0\nway a 0,0 0,0 0,0 0,0 0,0 0,0 0,0 0,0 0,0",
+        "refused 5\nrefused 5\nrl\nrefused 5\n",
+    ),
+    example(
+        b"a..\n\nway\nway a 1\nway a 1,\nway a ,1\nway a 1,0,0\nway a -1,0\nway a 1, 0\nway A 1,0\nway q\nway a1,0",
+        "refused 4 at 2\nrefused 4 at 3\nrefused 4 at 4\nrefused 4 at 5\nrefused 4 at 6\nrefused 4 at 7\n\
+         refused 4 at 8\nrefused 4 at 9\nrefused 4 at 10\nrefused 4 at 11\n",
+    ),
+    // What can't be read is told before a shuttle that isn't there, and that before a square outside.
+    example(
+        b"a..\n\nway b 9,9\nway b 9,x\nway a 9,9 x\nway b\nway a 99999999999999999999999,0",
+        "refused 3\nrefused 4 at 3\nrefused 4 at 4\nrefused 3\nrefused 5\n",
+    ),
+    // Ticks: one step each, an arrival so many ticks after it.
+    example(b"a.\n\ntick 2 d 1\norder a rl\ntick 4 d 1\nshow\n", "-\n-\ngranted\na\na\n-\n-\nA.\n"),
+    example(b"a.\n\norder a rl\ntick 5 d 3\nshow\ntick 2 d 3\nshow", "granted\na\n-\n-\na\n-\nAA\n-\n-\nA.\n"),
+    // The ages of steps go on over commands, and an arrival is due at once if a later command asks for fewer ticks.
+    example(b"a.\n\norder a rl\ntick 1 d 9\ntick 1 d 9\ntick 1 d 9\ntick 1 d 3\n", "granted\na\n-\n-\na\n"),
+    // A step by hand is one tick old in the next tick, and an arrival by hand counts as come.
+    example(b"a.\n\norder a rl\nstep a\ntick 2 d 2\n", "granted\ngranted\n-\na\n"),
+    example(b"a.\n\norder a rl\nstep a\narrive a\ntick 2 d 2\narrive a\n", "granted\ngranted\ngranted\na\n-\ngranted\n"),
+    // Of two that have waited equally long the lower one goes, then the one that has waited longer.
+    example(b"a.\nb.\n\norder a rl\norder b rl\ntick 6 d 1\n", "granted\ngranted\na\nb\na\nb\n-\n-\n"),
+    example(b"..\n\ntick 1 d 1\ntick 0002 d 01000\n", "-\n-\n-\n"),
+    example(
+        b"a.\n\ntick\ntick 1\ntick 1 d\ntick 1 1\ntick 0 d 1\ntick 10001 d 1\ntick 1 d 0\ntick 1 d 1001\ntick 1 d 1 1",
+        "refused 4 at 2\nrefused 4 at 3\nrefused 4 at 4\nrefused 4 at 5\nrefused 4 at 6\nrefused 4 at 7\n\
+         refused 4 at 8\nrefused 4 at 9\nrefused 4 at 10\n",
+    ),
+    example(
+        b"a.\n\ntick -1 d 1\ntick +1 d 1\ntick 1 D 1\ntick 1 d 18446744073709551617\ntick a d 1\n",
+        "refused 4 at 2\nrefused 4 at 3\nrefused 4 at 4\nrefused 4 at 5\nrefused 4 at 6\n",
+    ),
 ];
 
 /// Both programs on sizes and lengths at their limits.
@@ -94,10 +138,11 @@ fn limits() -> Vec<(Vec<u8>, String)> {
 pub fn all() -> Vec<Group> {
     let judged = JUDGE.iter().map(|example| (example.input.to_vec(), example.output.to_string())).chain(limits());
     let played = PLAY.iter().map(|example| (example.input.to_vec(), example.output.to_string()));
-    vec![group("judge by hand", judged, judge), group("play by hand", played, play)]
+    let with_all = |text: &[u8]| play(text, Commands { way: true, tick: true });
+    vec![group("judge by hand", judged, judge), group("play by hand", played, with_all)]
 }
 
-fn group(name: &str, examples: impl Iterator<Item = (Vec<u8>, String)>, model: fn(&[u8]) -> Vec<u8>) -> Group {
+fn group(name: &str, examples: impl Iterator<Item = (Vec<u8>, String)>, model: impl Fn(&[u8]) -> Vec<u8>) -> Group {
     let mut count = 0;
     let failure = examples.inspect(|_| count += 1).find_map(|(input, output)| {
         let printed = model(&input);

@@ -8,14 +8,21 @@ use crate::ring::Ring;
 #[derive(Clone, Copy, Debug, PartialEq, Eq)]
 pub enum Program {
     Judge,
-    Play,
+    Play(Commands),
+}
+
+/// Commands that the program may be without; they can't be read then.
+#[derive(Clone, Copy, Debug, PartialEq, Eq)]
+pub struct Commands {
+    pub way: bool,
+    pub tick: bool,
 }
 
 impl Program {
     pub fn name(self) -> &'static str {
         match self {
             Program::Judge => "judge",
-            Program::Play => "play",
+            Program::Play(_) => "play",
         }
     }
 }
@@ -82,7 +89,7 @@ fn damage_rows(random: &mut Random, rows: &mut Vec<Vec<u8>>) {
 fn line(random: &mut Random, program: Program, field: &Field, routes: &[Vec<u16>]) -> Vec<u8> {
     let mut line = match program {
         Program::Judge => judge_line(random, field, routes),
-        Program::Play => play_line(random, field, routes),
+        Program::Play(commands) => play_line(random, field, routes, commands),
     };
     if random.one_in(25) && !line.is_empty() {
         damage_bytes(random, &mut line);
@@ -101,17 +108,24 @@ fn judge_line(random: &mut Random, field: &Field, routes: &[Vec<u16>]) -> Vec<u8
     }
 }
 
-fn play_line(random: &mut Random, field: &Field, routes: &[Vec<u16>]) -> Vec<u8> {
+fn play_line(random: &mut Random, field: &Field, routes: &[Vec<u16>], commands: Commands) -> Vec<u8> {
     let shuttle = random.below_or_past(field.bays.len());
     let letter = vec![b'a' + shuttle as u8];
-    let words: Vec<Vec<u8>> = match random.below(20) {
+    let words: Vec<Vec<u8>> = match random.below(24) {
         0 => vec![b"show".to_vec()],
         1 => vec![],
         2..=6 => vec![b"order".to_vec(), letter, letters(random, field, shuttle, routes)],
         7..=13 => vec![b"step".to_vec(), letter],
         14..=18 => vec![b"arrive".to_vec(), letter],
+        19..=20 if commands.way => way_words(random, field, letter),
+        21..=22 if commands.tick => tick_words(random),
         _ => odd_words(random, letter),
     };
+    with_blanks(random, &words)
+}
+
+/// Words apart by one blank, now and then by more, and with some before and after.
+fn with_blanks(random: &mut Random, words: &[Vec<u8>]) -> Vec<u8> {
     let blanks = |random: &mut Random, least: usize| {
         let more = if random.one_in(10) { random.between(1, 3) } else { 0 };
         vec![b' '; least + more]
@@ -125,10 +139,67 @@ fn play_line(random: &mut Random, field: &Field, routes: &[Vec<u16>]) -> Vec<u8>
     line
 }
 
+fn way_words(random: &mut Random, field: &Field, letter: Vec<u8>) -> Vec<Vec<u8>> {
+    let count = *random.pick(&[0, 1, 1, 2, 2, 3, 5, 8, 9]);
+    let squares = (0..count).map(|_| square_word(random, field));
+    [b"way".to_vec(), letter].into_iter().chain(squares.collect::<Vec<_>>()).collect()
+}
+
+/// A square as column and row, now and then one outside, or no square.
+fn square_word(random: &mut Random, field: &Field) -> Vec<u8> {
+    let column = if random.one_in(40) { field.across } else { random.below(field.across) };
+    let row = if random.one_in(40) { field.down } else { random.below(field.down) };
+    match random.below(60) {
+        0 => {
+            random.pick(&["", ",", "1", "1,", ",1", "1,1,1", "1;1", "-1,1", "+1,1", "1,a", "1.0,1"]).as_bytes().to_vec()
+        }
+        1 => format!("{column},{row}{}", "0".repeat(random.between(1, 30))).into_bytes(),
+        2 => format!("{}{column},0{row}", "0".repeat(random.between(1, 30))).into_bytes(),
+        _ => format!("{column},{row}").into_bytes(),
+    }
+}
+
+/// Few ticks mostly, and arrivals that come soon; now and then a number at or past its limit, or no number.
+fn tick_words(random: &mut Random) -> Vec<Vec<u8>> {
+    let count = match random.below(60) {
+        0 => *random.pick(&["10000", "9999", "0010000"]),
+        1..=3 => *random.pick(&["0", "10001", "4294967297", "18446744073709551617", "-1", "+1", "x", "1e1", "1.0"]),
+        _ => *random.pick(&["1", "1", "1", "2", "3", "5", "08", "20", "40"]),
+    };
+    let due = match random.below(60) {
+        0 => *random.pick(&["1000", "999", "001000"]),
+        1..=3 => *random.pick(&["0", "1001", "65537", "18446744073709551617", "-1", "d", "1,"]),
+        _ => *random.pick(&["1", "1", "2", "3", "03", "7", "30"]),
+    };
+    let d = if random.one_in(60) { *random.pick(&["D", "dd", "e", "d1"]) } else { "d" };
+    let mut words = vec!["tick", count, d, due];
+    match random.below(80) {
+        0 => drop(words.remove(random.between(1, 3))),
+        1 => words.insert(random.between(1, 4), "1"),
+        _ => {}
+    }
+    words.into_iter().map(|word| word.as_bytes().to_vec()).collect()
+}
+
 /// Words that are no command, or hardly one.
 fn odd_words(random: &mut Random, letter: Vec<u8>) -> Vec<Vec<u8>> {
-    let words: [&[u8]; 12] =
-        [b"show", b"order", b"step", b"arrive", b"Step", b"steps", b"q", b"aa", b"A", b"rl", b"a\t", b"\xc3\xa4"];
+    let words: [&[u8]; 15] = [
+        b"show",
+        b"order",
+        b"step",
+        b"arrive",
+        b"Step",
+        b"steps",
+        b"q",
+        b"aa",
+        b"A",
+        b"rl",
+        b"a\t",
+        b"\xc3\xa4",
+        b"Way",
+        b"ticks",
+        b"0,0",
+    ];
     let count = random.between(0, 4);
     (0..count).map(|_| if random.one_in(3) { letter.clone() } else { random.pick(&words).to_vec() }).collect()
 }
@@ -208,6 +279,9 @@ pub fn long_lines() -> Vec<Vec<u8>> {
         [b"a.\n\norder a ".as_slice(), &long(b'r'), b"\norder a rl\nshow"].concat(),
         [b"a.\n\norder a ".as_slice(), &long(b'r'), b"x\nstep a\n"].concat(),
         [b"a.\n\nstep ".as_slice(), &long(b'a'), b"\nshow\n"].concat(),
+        [b"a.\n\nway a ".as_slice(), &b"0,0 ".repeat(1 << 18), b"\nshow\n"].concat(),
+        [b"a.\n\nway a 1,".as_slice(), &long(b'0'), b"\nway a ", &long(b'9'), b",0\nshow\n"].concat(),
+        [b"a.\n\norder a rl\ntick ".as_slice(), &long(b'0'), b"4 d 2\ntick 1 d ", &long(b'1')].concat(),
         b"\n".repeat(1 << 18),
         [b"a.\n\n".as_slice(), &b"a rl\n".repeat(1 << 16)].concat(),
     ]

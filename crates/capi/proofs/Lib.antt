@@ -1,3 +1,4 @@
 -- Answers as numbers.
 pub mod Numbers
 pub mod WayNumbers
+pub mod TickNumbers

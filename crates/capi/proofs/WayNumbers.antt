@@ -18,7 +18,7 @@ unfolding way-refusal
 refusal-most a d ws bs i c row places = grind (arith, tells)
 
 pub way-small : (a d : ℕ) (ws bs : List ℕ) (i c : ℕ) (row : List ℕ) (places : ℕ) (f : Field) (before after : List ℕ) (w : Way)
-  → Answers f i c row (way-refusal a d ws bs i c row places) before after w → way-number w < 131072
+    → Answers f i c row (way-refusal a d ws bs i c row places) before after w → way-number w < 131072
 unfolding way-number
 way-small a d ws bs i c row places f before after (Found k) s =
     let short = s .1 .2 .through .short in let long = s .1 .1 in omega arith

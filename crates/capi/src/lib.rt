@@ -7,10 +7,13 @@ ghost use Rattle.promise.specs.Promise.{sum-to, squares-left, events-left};
 ghost use Rattle.calls.specs.Call.{Says, Reached, Promised};
 ghost use Rattle.hall.specs.Answer.{number};
 ghost use Rattle.hall.specs.Start.{Start-says};
+
+mod ticks;
 mod ways;
 
-pub use ways::way;
 use hall::Done;
+pub use ticks::tick;
+pub use ways::way;
 
 // The number of an answer: 0 it happened, 1 it did not, 16 + n it was turned away by n.
 fn number_of(done: Done) -> u64

@@ -21,7 +21,16 @@ fn number_of_way(answer: Way) -> u64
 
 // The first of the shortest routes of the shuttle from that square through the row, as way::way has it.
 #[unsafe(no_mangle)]
-pub extern "C" fn way(across: u64, down: u64, walls: &[u8], bays: &[u16], shuttle: u64, from: u16, row: &[u16], route: &mut [u16]) -> u64
+pub extern "C" fn way(
+    across: u64,
+    down: u64,
+    walls: &[u8],
+    bays: &[u16],
+    shuttle: u64,
+    from: u16,
+    row: &[u16],
+    route: &mut [u16],
+) -> u64
     ensures { λ r. ⌜ Way-says (field-in across down (now (walls .entry)) (now (bays .entry))) shuttle from (now (row .entry)) (way-refusal across down (now (walls .entry)) (now (bays .entry)) shuttle from (now (row .entry)) (length (now (route .entry)))) (now (route .entry)) (now (route .exit)) r ⌝ }
 {
     let answer = way::way(across, down, walls, bays, shuttle, from, row, route);

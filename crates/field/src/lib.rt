@@ -5,4 +5,5 @@ mod marks;
 mod squares;
 
 pub use field::Field;
+pub use marks::are_marks;
 pub use squares::is_field;

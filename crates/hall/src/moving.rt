@@ -25,7 +25,7 @@ fn shift(part: &mut [u16])
 
 // Writes a step of the shuttle whose numbers begin at this place, with something left: it is on its next square, moves
 // from the one it was on, and has one less left. The part of memory for what is left is lent on.
-fn write_step(memory: &mut [u16], place: usize)
+pub fn write_step(memory: &mut [u16], place: usize)
     requires there { ⌜ place + 260 ≤ length (now memory) ⌝ }
     requires some { ⌜ 1 ≤ getD (now memory) (place + 3) 0 ⌝ }
     requires room { ⌜ getD (now memory) (place + 3) 0 ≤ 256 ⌝ }

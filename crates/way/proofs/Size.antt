@@ -53,6 +53,9 @@ pub free-below : (f : Lent) (c : ℕ) → free-square (field-of f) c ≡ true �
 unfolding free-square field-in
 free-below f c h = ltb-true c (f .across * f .down) (and-parts (ltb c (f .across * f .down)) _ h .0)
 
+pub bay-below : (f : Lent) (j : ℕ) → j < length (now (f .bays)) → getD (now (f .bays)) j 0 < 4096
+bay-below f j l = omega (arith, free-below f (getD (now (f .bays)) j 0) (bay-free f j l), sizes f .squares-most)
+
 -- the code's field, from numbers that are accepted
 abbrev pub lent : (across down : ℕ) (walls bays : RefT (List ℕ)) → field-ok across down (now walls) (now bays) ≡ true → Lent
 lent a d ws bs h = record { across = a; down = d; walls = ws; bays = bs; accepted = h }

@@ -4,6 +4,8 @@ use mathlib.Core.List.{List, _++_}
 use Prim.Native.Nat.{ℕ, _<_}
 use lib.ListN.{length, drop}
 use Rattle.rules.specs.Field.{Field}
+use Rattle.rules.specs.Memory.{field-in}
+use Rattle.ways.specs.Asked.{way-refusal}
 use Rattle.ways.specs.Shortest.{Shortest, Nowhere}
 use Rattle.way.specs.declared.answer.Way.{Way}
 use Rattle.way.specs.declared.answer.Way.the-variants.{Found, None, Refused}
@@ -14,3 +16,7 @@ abbrev pub Answers : Field → (shuttle from : ℕ) → (row : List ℕ) → ℕ
 Answers f i c row n before after (Found k) = (n ≡ 0) × ((r : List ℕ) × (length r ≡ k) × Shortest f i c row r × (after ≡ r ++ drop k before))
 Answers f i c row n before after None = (n ≡ 0) × Nowhere f i c row × (after ≡ before)
 Answers f i c row n before after (Refused m) = (m ≡ n) × (0 < n) × (after ≡ before)
+
+-- the same of the numbers that the entry is lent
+abbrev pub Answered : (across down : ℕ) → (walls bays : List ℕ) → (shuttle from : ℕ) → (row before after : List ℕ) → Way → Type 0
+Answered a d ws bs i c row before after = Answers (field-in a d ws bs) i c row (way-refusal a d ws bs i c row (length before)) before after

@@ -1,7 +1,5 @@
 -- What a leg of the code, and all of them, come to.
-use denote.Ref.{now}
-use mathlib.Core.Path.{_≡_}
-use mathlib.Core.List.{List, []}
+use mathlib.Core.List.{List}
 use Prim.Native.Nat.{ℕ, _+_, _<_, _≤_}
 use lib.ListN.{length, take}
 use Rattle.std.specs.Options.{Cases}

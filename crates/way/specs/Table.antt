@@ -1,5 +1,4 @@
 -- A table of distances and a queue, for a leg of the code.
-use denote.Ref.{now}
 use mathlib.Core.Bool.{true}
 use mathlib.Core.Path.{_≡_}
 use mathlib.Core.List.{List}

@@ -3,10 +3,8 @@ ghost use mathlib.Core.Path.{_≡_};
 ghost use mathlib.Core.List.{[], _∷_, _++_};
 ghost use Prim.Native.Nat.{ℕ, _*_, _<_, _≤_};
 ghost use lib.ListN.{length, getD};
-ghost use Rattle.rules.specs.Memory.{field-in};
-ghost use Rattle.ways.specs.Asked.{way-refusal};
 ghost use Rattle.way.specs.Lead.{Leads};
-ghost use Rattle.way.specs.Answer.{Answers};
+ghost use Rattle.way.specs.Answer.{Answered};
 use super::answer::Way;
 use super::asked::is_asked;
 use super::legs::lead;
@@ -40,7 +38,7 @@ pub fn way(
     row: &[u16],
     route: &mut [u16],
 ) -> Way
-    ensures { λ r. ⌜ Answers (field-in across down (now (walls .entry)) (now (bays .entry))) shuttle from (now (row .entry)) (way-refusal across down (now (walls .entry)) (now (bays .entry)) shuttle from (now (row .entry)) (length (now (route .entry)))) (now (route .entry)) (now (route .exit)) r ⌝ }
+    ensures { λ r. ⌜ Answered across down (now (walls .entry)) (now (bays .entry)) shuttle from (now (row .entry)) (now (route .entry)) (now (route .exit)) r ⌝ }
 {
     if !is_field(across, down, walls, bays) {
         return Way::Refused(1);

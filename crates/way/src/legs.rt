@@ -2,7 +2,6 @@
 ghost use mathlib.Core.Path.{_≡_};
 ghost use Prim.Native.Nat.{ℕ, _+_, _*_, _<_, _≤_};
 ghost use lib.ListN.{length, getD, drop};
-ghost use Rattle.field.specs.Model.{field-of};
 ghost use Rattle.ways.proofs.Good.{final};
 ghost use Rattle.way.specs.Table.{OverGround};
 ghost use Rattle.way.specs.Lead.{Driven, Leads};

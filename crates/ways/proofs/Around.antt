@@ -1,14 +1,13 @@
 -- The squares around a square are those beside it, each at the place of its step's number.
-use mathlib.Core.Bool.{Bool, true, false, cond, _&&_, _||_}
-use mathlib.Core.Path.{_≡_, refl, sym, ap, subst, _∙_}
-use mathlib.Core.List.{List, [], _∷_}
+use mathlib.Core.Bool.{true, _&&_, _||_}
+use mathlib.Core.Path.{_≡_, sym, ap, subst, _∙_}
 use mathlib.Core.Logic.{_⊎_, inl, inr, ⊎-elim}
 use Prim.Native.Nat.{ℕ, zero, suc, _+_, _-_, _*_, _<_, _≤_, _/_, _%_}
 use native.Mathlib.Nat.{mul-comm, mul-le-mul-right}
 use native.Mathlib.Omega.{arith}
-use lib.Dec.{eqb, ltb}
-use lib.ListN.{length, getD}
-use Rattle.std.proofs.shelf.Tests.{cases-eq, cases-lt, eq-eqb, eqb-true, and-parts, or-cases}
+use lib.Dec.{eqb}
+use lib.ListN.{getD}
+use Rattle.std.proofs.shelf.Tests.{cases-eq, cases-lt, eqb-true, and-parts, or-cases}
 use Rattle.std.proofs.shelf.Bits.{div-add-mod', div-mul-add, div-below, mod-below}
 use Rattle.std.proofs.shelf.Ways.{tells}
 use Rattle.rules.specs.Field.{Field, beside}

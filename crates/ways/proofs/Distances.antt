@@ -1,12 +1,12 @@
 -- A table of distances to the next square of a row: it bounds the leg, and the first square around that is one nearer is the walk's next.
-use mathlib.Core.Bool.{Bool, true, false, _&&_, _||_, not}
-use mathlib.Core.Path.{_≡_, refl, sym, ap, subst, _∙_}
-use mathlib.Core.Logic.{_⊎_, inl, inr, ⊎-elim}
-use Prim.Native.Nat.{ℕ, suc, _+_, _*_, _<_, _≤_, min}
+use mathlib.Core.Bool.{Bool, true, _&&_, _||_, not}
+use mathlib.Core.Path.{_≡_, refl, sym, ap, _∙_}
+use mathlib.Core.Logic.{_⊎_, ⊎-elim}
+use Prim.Native.Nat.{ℕ, suc, _*_, _<_, _≤_, min}
 use native.Mathlib.Omega.{arith}
 use lib.Dec.{eqb, ltb}
 use lib.ListN.{getD}
-use Rattle.std.proofs.shelf.Tests.{cases-eq, cases-lt, and-parts, ltb-true}
+use Rattle.std.proofs.shelf.Tests.{cases-lt, and-parts, ltb-true}
 use Rattle.rules.specs.Field.{Field, is-bay, free-square, beside}
 use Rattle.ways.specs.Order.{turn}
 use Rattle.ways.specs.Around.{around}

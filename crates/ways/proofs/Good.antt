@@ -1,13 +1,12 @@
 -- Routes that meet what is left of a row, step by step: which squares may be entered on the way to the next square of the row.
-use mathlib.Core.Bool.{Bool, true, false, cond, _&&_, _||_, not}
+use mathlib.Core.Bool.{Bool, true, false, _&&_, _||_, not}
 use mathlib.Core.Path.{_≡_, refl, sym, ap, subst, _∙_}
-use mathlib.Core.List.{List, [], _∷_, _++_}
-use mathlib.Core.Logic.{_⊎_, inl, inr, ⊎-elim}
-use Prim.Native.Nat.{ℕ, zero, suc, _+_, _<_, _≤_}
+use mathlib.Core.List.{List, [], _∷_}
+use mathlib.Core.Logic.{⊎-elim}
+use Prim.Native.Nat.{ℕ}
 use native.Mathlib.Omega.{arith}
 use lib.Dec.{eqb}
-use lib.ListN.{length}
-use Rattle.std.proofs.shelf.Tests.{cases-eq, cases-bool, eq-eqb, ne-eqb, eqb-true, and-parts, and-from, or-cases, or-left, or-right, not-true, not-from-false, both-ways}
+use Rattle.std.proofs.shelf.Tests.{cases-eq, cases-bool, eq-eqb, eqb-true, and-parts, and-from, or-cases, or-left, or-right, not-true, not-from-false, both-ways}
 use Rattle.rules.specs.Tests.{is-empty}
 use Rattle.rules.specs.Field.{Field, is-bay, free-square, beside}
 use Rattle.rules.specs.Route.{step-ok, route-ok}

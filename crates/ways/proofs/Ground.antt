@@ -1,17 +1,15 @@
 -- The squares of a field that are free and nobody's bay, in a table, and the table of a leg made from it.
 use mathlib.Core.Bool.{Bool, true, false, cond, _&&_, _||_, not}
-use mathlib.Core.Path.{_≡_, refl, sym, ap, subst, _∙_}
+use mathlib.Core.Path.{_≡_, sym, ap, _∙_}
 use mathlib.Core.List.{List}
-use mathlib.Core.Logic.{_⊎_, inl, inr, ⊎-elim}
-use Prim.Native.Nat.{ℕ, suc, _+_, _*_, _<_, _≤_}
+use mathlib.Core.Logic.{inl, inr, ⊎-elim}
+use Prim.Native.Nat.{ℕ}
 use native.Mathlib.Omega.{arith}
 use lib.Dec.{eqb}
-use lib.ListN.{length, getD, set}
 use Rattle.std.proofs.shelf.Tests.{cases-eq, cases-bool, ne-eqb, cond-true, cond-false, both-ways}
 use Rattle.std.proofs.shelf.Ways.{tells}
 use Rattle.rules.specs.Field.{Field, free-square, is-bay}
 use Rattle.ways.proofs.Good.{enter}
-use Rattle.ways.proofs.Distances.{Seen}
 use Rattle.ways.proofs.Expand.{distance-in}
 use Rattle.ways.proofs.Prepared.{Prepared}
 

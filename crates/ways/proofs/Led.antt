@@ -1,22 +1,18 @@
 -- Leg by leg: what has been driven so far, so that the best of what is left makes the best of all.
-use mathlib.Core.Bool.{Bool, true, false, cond}
+use mathlib.Core.Bool.{true}
 use mathlib.Core.Path.{_≡_, refl, sym, ap, subst, _∙_}
 use mathlib.Core.List.{List, [], _∷_, _++_, append-assoc}
-use mathlib.Core.Logic.{_⊎_, inl, inr, ⊎-elim}
-use Prim.Native.Nat.{ℕ, zero, suc, _+_, _<_, _≤_}
+use mathlib.Core.Logic.{inl, ⊎-elim}
+use Prim.Native.Nat.{ℕ, _+_, _<_, _≤_}
 use native.Mathlib.Omega.{arith}
-use lib.Dec.{eqb}
 use lib.ListN.{length}
 use Rattle.std.proofs.shelf.Lists.{length-append, append-nil, nil-from-length}
-use Rattle.std.proofs.shelf.Tests.{eq-eqb, eqb-true, cases-eq}
+use Rattle.std.proofs.shelf.Tests.{cases-eq}
 use Rattle.rules.specs.Tests.{is-empty}
 use Rattle.rules.specs.Field.{Field}
-use Rattle.rules.specs.Route.{route-ok}
-use Rattle.ways.specs.Order.{before}
-use Rattle.ways.specs.Visit.{Visits}
 use Rattle.ways.specs.Shortest.{Through, Shortest, Nowhere}
 use Rattle.ways.proofs.Greedy.{past, past-here, past-other, met-visits, visits-end, visits-front}
-use Rattle.ways.proofs.Good.{Good, enter, final, empty-nil, cons-nil, route-ends, good-drop, good-put, good-none}
+use Rattle.ways.proofs.Good.{Good, final, empty-nil, cons-nil, route-ends, good-drop, good-put, good-none}
 use Rattle.ways.proofs.Leg.{Best, Bounds, Falls, arrives, falls-length, leg-best}
 
 -- a row that is not empty ends in b

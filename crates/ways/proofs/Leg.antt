@@ -1,19 +1,17 @@
 -- One leg of a way: numbers that fall by one at most with each step to the next square of the row show that the walk along which they fall,
 -- by the first step that may be made, is the first of the shortest.
-use mathlib.Core.Bool.{Bool, true, false}
+use mathlib.Core.Bool.{Bool, true}
 use mathlib.Core.Path.{_≡_, refl, sym, ap, subst, _∙_}
 use mathlib.Core.List.{List, [], _∷_, _++_}
 use mathlib.Core.Logic.{_⊎_, inl, inr, ⊎-elim}
-use Prim.Native.Nat.{ℕ, zero, suc, _+_, _<_, _≤_}
+use Prim.Native.Nat.{ℕ, suc, _+_, _<_, _≤_}
 use native.Mathlib.Omega.{arith}
 use lib.ListN.{length}
-use Rattle.std.proofs.shelf.Tests.{cases-eq, cases-order, cases-bool, eqb-true, and-parts, or-cases, both-ways, not-true}
+use Rattle.std.proofs.shelf.Tests.{cases-eq, cases-order}
 use Rattle.std.proofs.shelf.Lists.{length-append, nil-from-length}
-use Rattle.rules.specs.Field.{Field, is-bay, free-square, beside}
-use Rattle.rules.specs.Route.{route-ok}
+use Rattle.rules.specs.Field.{Field, is-bay, beside}
 use Rattle.ways.specs.Order.{turn, before}
 use Rattle.ways.proofs.Turn.{turn-same, before-now, before-later}
-use Rattle.ways.proofs.Greedy.{past}
 use Rattle.ways.proofs.Good.{Good, enter, final, enter-bay, good-end, good-next, good-step, good-stay}
 
 -- w is the first of the shortest good ones

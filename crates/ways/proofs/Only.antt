@@ -1,5 +1,5 @@
 -- The order of routes goes one way, so that only one route is the first of the shortest.
-use mathlib.Core.Bool.{Bool, true, false, _&&_, _||_}
+use mathlib.Core.Bool.{true, false, _&&_}
 use mathlib.Core.Path.{_≡_, refl, sym, ap, subst, _∙_}
 use mathlib.Core.List.{List, [], _∷_}
 use mathlib.Core.Logic.{_⊎_, inl, inr, ⊎-elim}
@@ -10,7 +10,6 @@ use lib.ListN.{length}
 use Rattle.std.proofs.shelf.Tests.{and-parts, or-cases, ltb-true, eqb-true, both-ways, cases-eq, cases-bool}
 use Rattle.rules.specs.Field.{Field}
 use Rattle.ways.specs.Order.{turn, before}
-use Rattle.ways.specs.Shortest.{Shortest}
 use Rattle.ways.specs.Law.{One-way, Only-one}
 use Rattle.ways.proofs.Good.{cons-nil}
 

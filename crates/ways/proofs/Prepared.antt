@@ -1,21 +1,20 @@
 -- A table before distances spread, in which only the goal is known, and after.
 use mathlib.Core.Bool.{Bool, true, false, cond}
-use mathlib.Core.Path.{_≡_, refl, sym, ap, subst, _∙_}
+use mathlib.Core.Path.{_≡_, refl, ap, subst, _∙_}
 use mathlib.Core.List.{List}
 use mathlib.Core.Logic.{_⊎_, inl, inr, ⊎-elim}
-use Prim.Native.Nat.{ℕ, suc, _+_, _*_, _<_, _≤_, min}
+use Prim.Native.Nat.{ℕ, _+_, _<_, _≤_}
 use native.Mathlib.Omega.{arith}
 use lib.Dec.{eqb}
 use lib.ListN.{length, getD, set}
-use Rattle.std.specs.shelf.Lists.{countBy}
 use Rattle.std.proofs.shelf.Lists.{length-set, getD-default}
 use Rattle.std.proofs.shelf.Sums.{sumBy-set, countBy-le-length}
-use Rattle.std.proofs.shelf.Tests.{cases-eq, eq-eqb, ne-eqb, eqb-true, cond-true, cond-false, both-ways}
-use Rattle.rules.specs.Field.{Field, beside}
+use Rattle.std.proofs.shelf.Tests.{cases-eq, eq-eqb, ne-eqb, cond-true, cond-false}
+use Rattle.rules.specs.Field.{Field}
 use Rattle.ways.proofs.Good.{enter}
 use Rattle.ways.proofs.Leg.{Bounds}
 use Rattle.ways.proofs.Distances.{Seen, Hop, hop-seen, Distances}
-use Rattle.ways.proofs.Spread.{Spread, spread-start, spread-end}
+use Rattle.ways.proofs.Spread.{spread-start, spread-end}
 use Rattle.ways.proofs.Expand.{distance-in, unknown, Spreading}
 
 -- the goal has distance 0, every other square of the leg is not known yet, and none comes to the others

@@ -1,10 +1,10 @@
 -- Distances that spread from a goal, square by square in the order of a queue: what holds while they do, and at the end.
 -- A table's number below 65534 is a distance that is known; 65535 stands for a square that none has come to yet, 65534 for one that none comes to.
-use mathlib.Core.Path.{_≡_, refl, sym, ap, subst, _∙_}
+use mathlib.Core.Path.{_≡_, sym, ap, subst, _∙_}
 use mathlib.Core.Logic.{_⊎_, inl, inr, ⊎-elim}
-use Prim.Native.Nat.{ℕ, zero, suc, _<_, _≤_}
+use Prim.Native.Nat.{ℕ, suc, _<_, _≤_}
 use native.Mathlib.Omega.{arith}
-use Rattle.std.proofs.shelf.Tests.{cases-eq, cases-lt}
+use Rattle.std.proofs.shelf.Tests.{cases-eq}
 
 -- from c one may go to d by `Hop c d`, and `Seen c` holds of each square that one may go from
 module _ (Hop : ℕ → ℕ → Type 0) (Seen : ℕ → Type 0) (hop-seen : (c d : ℕ) → Hop c d → Seen c) (g : ℕ) where

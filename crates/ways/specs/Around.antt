@@ -1,7 +1,7 @@
 -- The squares around a square.
 use mathlib.Core.Bool.{cond}
 use mathlib.Core.List.{List, [], _∷_}
-use Prim.Native.Nat.{ℕ, suc, _+_, _-_, _%_}
+use Prim.Native.Nat.{ℕ, _+_, _-_, _%_}
 use lib.Dec.{ltb, eqb}
 
 -- the squares right of, below, left of and above square c, in a field of n squares, so many across; c itself where there is none

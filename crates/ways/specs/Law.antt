@@ -3,7 +3,6 @@ use mathlib.Core.Bool.{true, false}
 use mathlib.Core.Path.{_≡_}
 use mathlib.Core.List.{List}
 use Prim.Native.Nat.{ℕ}
-use lib.ListN.{length}
 use Rattle.rules.specs.Field.{Field}
 use Rattle.ways.specs.Order.{before}
 use Rattle.ways.specs.Shortest.{Shortest}

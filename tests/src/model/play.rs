@@ -1,13 +1,16 @@
 //! The program that plays a row of events.
 
-use super::{Lines, Refusal, plan_of, shuttle, squares, ways};
-use crate::entry::{ARRIVE, Entry, EventNumbers, HAPPENED, MOST_LEFT, ORDER, PER_SHUTTLE, STEP, part_of};
+use super::turns::Turns;
+use super::{Lines, Refusal, letter, number, plan_of, shuttle, squares, ways};
+use crate::entry::{ARRIVE, Entry, EventNumbers, HAPPENED, MOST_ASKED, MOST_LEFT, ORDER, PER_SHUTTLE, STEP, part_of};
 use crate::plan::Plan;
 use crate::random::Random;
 use crate::reference::Reference;
 use crate::reference::field::Way;
 use crate::reference::fleet;
 use crate::reference::route::OUTSIDE;
+use crate::reference::way::first_shortest;
+use crate::texts::Commands;
 
 enum Command {
     Nothing,
@@ -15,15 +18,20 @@ enum Command {
     Order(usize, Vec<Way>),
     Step(usize),
     Arrive(usize),
+    /// With squares as column and row.
+    Way(usize, Vec<(usize, usize)>),
+    /// So many ticks, each arrival due so many ticks after its step.
+    Tick(usize, usize),
 }
 
 struct Hall {
     plan: Plan,
     memory: Vec<u16>,
     reference: Reference,
+    turns: Turns,
 }
 
-pub fn play(input: &[u8]) -> Vec<u8> {
+pub fn play(input: &[u8], commands: Commands) -> Vec<u8> {
     let lines = Lines::of(input);
     let plan = match plan_of(&lines.rows) {
         Ok(plan) => plan,
@@ -32,7 +40,7 @@ pub fn play(input: &[u8]) -> Vec<u8> {
     let mut hall = Hall::new(plan);
     let mut output = String::new();
     for (number, line) in lines.numbered_rest() {
-        match read(line) {
+        match read(line, commands) {
             Some(command) => hall.perform(command, &mut output),
             None => Refusal::Unreadable(number).print(&mut output),
         }
@@ -40,7 +48,7 @@ pub fn play(input: &[u8]) -> Vec<u8> {
     output.into_bytes()
 }
 
-fn read(line: &[u8]) -> Option<Command> {
+fn read(line: &[u8], commands: Commands) -> Option<Command> {
     let words: Vec<&[u8]> = line.split(|&byte| byte == b' ').filter(|word| !word.is_empty()).collect();
     match words[..] {
         [] => Some(Command::Nothing),
@@ -49,8 +57,21 @@ fn read(line: &[u8]) -> Option<Command> {
         [b"order", &[letter], letters] => Some(Command::Order(shuttle(letter)?, ways(letters)?)),
         [b"step", &[letter]] => Some(Command::Step(shuttle(letter)?)),
         [b"arrive", &[letter]] => Some(Command::Arrive(shuttle(letter)?)),
+        [b"way", &[letter], ref squares @ ..] if commands.way => {
+            Some(Command::Way(shuttle(letter)?, squares.iter().map(|word| square(word)).collect::<Option<_>>()?))
+        }
+        [b"tick", count, b"d", after] if commands.tick => {
+            let count = number(count).filter(|count| (1..=10_000).contains(count))?;
+            Some(Command::Tick(count, number(after).filter(|after| (1..=1000).contains(after))?))
+        }
         _ => None,
     }
+}
+
+/// Column and row, with a comma between.
+fn square(word: &[u8]) -> Option<(usize, usize)> {
+    let comma = word.iter().position(|&byte| byte == b',')?;
+    Some((number(&word[..comma])?, number(&word[comma + 1..])?))
 }
 
 impl Hall {
@@ -58,7 +79,8 @@ impl Hall {
         let mut memory = vec![0; PER_SHUTTLE * plan.bays.len()];
         let mut reference = Reference::new(Random::new(0));
         assert_eq!(reference.start(plan.numbers(), &mut memory), HAPPENED);
-        Hall { plan, memory, reference }
+        let turns = Turns::new(plan.bays.len());
+        Hall { plan, memory, reference, turns }
     }
 
     fn perform(&mut self, command: Command, output: &mut String) {
@@ -68,6 +90,8 @@ impl Hall {
             Command::Order(i, ways) => self.order(i, &ways),
             Command::Step(i) => self.happen(STEP, i, &[]),
             Command::Arrive(i) => self.happen(ARRIVE, i, &[]),
+            Command::Way(i, squares) => return self.way(i, &squares, output),
+            Command::Tick(count, after) => return self.ticks(count, after, output),
         };
         match happened {
             Ok(true) => output.push_str("granted\n"),
@@ -90,7 +114,39 @@ impl Hall {
             return Err(Refusal::NoEvent);
         }
         let event = EventNumbers { kind, shuttle: shuttle as u64, route };
-        Ok(self.reference.happen(self.plan.numbers(), &mut self.memory, event) == HAPPENED)
+        let happened = self.reference.happen(self.plan.numbers(), &mut self.memory, event) == HAPPENED;
+        if happened && kind == STEP {
+            self.turns.stepped(shuttle);
+        }
+        Ok(happened)
+    }
+
+    fn way(&self, shuttle: usize, asked: &[(usize, usize)], output: &mut String) {
+        let field = self.plan.field();
+        let Some(&bay) = field.bays.get(shuttle) else {
+            return Refusal::NoEvent.print(output);
+        };
+        let outside = asked.iter().any(|&(column, row)| column >= field.across || row >= field.down);
+        if outside || asked.len() > MOST_ASKED {
+            return Refusal::NoWay.print(output);
+        }
+        let squares: Vec<u16> = asked.iter().map(|&(column, row)| (row * field.across + column) as u16).collect();
+        match first_shortest(&field, shuttle, bay, &squares).filter(|route| route.len() <= MOST_LEFT) {
+            Some(route) => {
+                let befores = std::iter::once(&bay).chain(&route);
+                output.extend(befores.zip(&route).filter_map(|(&from, &to)| letter(&field, from, to)));
+            }
+            None => output.push_str("none"),
+        }
+        output.push('\n');
+    }
+
+    fn ticks(&mut self, count: usize, after: usize, output: &mut String) {
+        for _ in 0..count {
+            let granted = self.turns.tick(&mut self.reference, &self.plan, &mut self.memory, after);
+            output.push(granted.map_or('-', |shuttle| char::from(b'a' + shuttle as u8)));
+            output.push('\n');
+        }
     }
 
     fn show(&self, output: &mut String) {

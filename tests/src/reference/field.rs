@@ -53,7 +53,7 @@ impl<'a> Field<'a> {
     }
 
     /// Row and column.
-    fn place(&self, square: u16) -> (usize, usize) {
+    pub fn place(&self, square: u16) -> (usize, usize) {
         (usize::from(square) / self.across, usize::from(square) % self.across)
     }
 

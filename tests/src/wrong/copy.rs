@@ -54,7 +54,7 @@ impl RulesCopy {
         self.fault == Some(fault)
     }
 
-    fn field_fits(&self, field: FieldNumbers) -> bool {
+    pub(super) fn field_fits(&self, field: FieldNumbers) -> bool {
         let most = if self.has(Fault::SizeSixtyFive) { 65 } else { 64 };
         let size = (1..=most).contains(&field.across) && (1..=64).contains(&field.down);
         let top_mark = if self.has(Fault::WallMarks) { 255 } else { 1 };
@@ -72,7 +72,7 @@ impl RulesCopy {
         field.walls.get(usize::from(bay)).is_some_and(|mark| !on_wall(mark)) && !field.bays[compared].contains(&bay)
     }
 
-    fn memory_fits(&self, field: FieldNumbers, memory: &[u16]) -> bool {
+    pub(super) fn memory_fits(&self, field: FieldNumbers, memory: &[u16]) -> bool {
         let count = field.bays.len();
         memory.len() == PER_SHUTTLE * count && (0..count).all(|i| self.part_fits(field, part_of(memory, i)))
     }
@@ -135,14 +135,14 @@ impl RulesCopy {
         steps_fit && (end == own || self.has(Fault::EndsOutside))
     }
 
-    fn beside(&self, field: FieldNumbers, one: u16, other: u16) -> bool {
+    pub(super) fn beside(&self, field: FieldNumbers, one: u16, other: u16) -> bool {
         let across = field.across as u16;
         let (low, high) = (one.min(other), one.max(other));
         let same_row = low / across == high / across || self.has(Fault::RowEnds);
         high - low == across || (high - low == 1 && same_row)
     }
 
-    fn step(&self, field: FieldNumbers, memory: &mut [u16], shuttle: usize) -> bool {
+    pub(super) fn step(&self, field: FieldNumbers, memory: &mut [u16], shuttle: usize) -> bool {
         let part = part_of(memory, shuttle);
         let stands = part[MARK] == 0 || self.has(Fault::StepWhileMoving);
         if !stands || part[LENGTH] == 0 || self.has(Fault::NothingGranted) {
@@ -212,7 +212,7 @@ impl RulesCopy {
         memory.chunks(PER_SHUTTLE).enumerate().map(|(i, part)| met(part) & !own(i)).collect()
     }
 
-    fn arrive(&self, part: &mut [u16]) -> bool {
+    pub(super) fn arrive(&self, part: &mut [u16]) -> bool {
         if part[MARK] == 0 && !self.has(Fault::ArrivalOfStanding) {
             return false;
         }

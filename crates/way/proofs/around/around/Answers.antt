@@ -1,7 +1,5 @@
 -- A field has at most 4096 squares, so that no number leaves its type; each way through the tests is one of the definition.
 use native.Mathlib.Omega.{arith}
-use mathlib.Core.Path.{_≡_}
-use Prim.Native.Nat.{_<_}
 use Rattle.std.proofs.shelf.Ways.{tells}
 use Rattle.std.proofs.shelf.Bits.{mod-below}
 use Rattle.ways.specs.Around.{around}

@@ -1,9 +1,8 @@
 -- Each way through the tests is one of the definition; a field has as many marks as squares.
-use mathlib.Core.Path.{_≡_, ap}
-use Prim.Native.Nat.{ℕ, _*_}
+use mathlib.Core.Path.{ap}
+use Prim.Native.Nat.{ℕ}
 use native.Mathlib.Omega.{arith}
 use lib.Dec.{ltb}
-use lib.ListN.{length}
 use Rattle.std.proofs.shelf.Ways.{tells}
 use Rattle.rules.specs.Tests.{every}
 use Rattle.rules.specs.Memory.{field-in}

@@ -6,7 +6,7 @@ use Prim.Native.Nat.{ℕ, _+_, _-_, _*_, _<_, _≤_}
 use native.Mathlib.Omega.{arith}
 use borrow.Rule.Slice.PartMut.{postOf, post-is}
 use lib.ListN.{length, getD, take, drop, replicate}
-use Rattle.std.proofs.shelf.Lists.{drop-more, getD-replicate, take-at, length-append, length-push, length-drop, getD-append-left, getD-push}
+use Rattle.std.proofs.shelf.Lists.{drop-more, getD-replicate, take-at, length-append, length-push, getD-append-left, getD-push}
 use Rattle.std.proofs.shelf.Tests.{cases-lt}
 use Rattle.way.specs.Lead.{Leads}
 use Rattle.way.proofs.find.through.Needs as need

@@ -1,14 +1,13 @@
 -- What is turned away has its number; the way that was led is the first of the shortest, and is written to the front of the route.
-use mathlib.Core.Path.{_≡_, refl, sym, ap, subst, _∙_}
+use mathlib.Core.Path.{_≡_, refl, sym, ap, _∙_}
 use mathlib.Core.List.{List, [], _∷_, _++_}
-use Prim.Native.Nat.{ℕ, _+_, _-_, _*_, _<_, _≤_}
+use Prim.Native.Nat.{ℕ, _-_, _<_, _≤_}
 use native.Mathlib.Omega.{arith}
 use borrow.Rule.Slice.PartMut.{postOf, post-is}
 use lib.ListN.{length, getD, take, drop}
 use Rattle.std.proofs.shelf.Lists.{length-take-le}
 use Rattle.rules.specs.Field.{Field}
-use Rattle.rules.specs.Memory.{field-in, field-ok}
-use Rattle.field.specs.declared.field.Field.{Field as Lent}
+use Rattle.rules.specs.Memory.{field-in}
 use Rattle.ways.proofs.Leg.{Best}
 use Rattle.ways.proofs.Led.{shortest-from-best, nowhere-from-far, ends-push}
 use Rattle.ways.proofs.Asked.{refused-field, refused-shuttle, refused-asked, refused-not, asked-tells}
@@ -22,7 +21,8 @@ found :
     (f : Field) (i from k n : ℕ) (row made before after : List ℕ) → n ≡ 0 → length made ≡ 256 → (k ≤ 256) × Best f i from (row ++ (f .bay i ∷ [])) (take k made)
     → after ≡ take k made ++ drop k before → Answers f i from row n before after (Found k)
 found f i from k n row made before after z long b e =
-    (z, (take k made, length-take-le k made (omega (arith, b .0)), shortest-from-best f i from row (take k made) (b .1) (omega (arith, b .0, length-take-le k made (omega (arith, b .0)))), e))
+    let l : length (take k made) ≡ k = length-take-le k made (omega (arith, b .0)) in
+    (z, (take k made, l, shortest-from-best f i from row (take k made) (b .1) (omega (arith, b .0)), e))
 
 -- the front of the route after the copy
 copied : (k : ℕ) (self made before : List ℕ) → self ≡ take (k - 0) made → self ++ postOf 0 (k - 0) before ≡ take k made ++ drop k before
@@ -75,13 +75,17 @@ part-copy-from-slice-end-in-Some c =
 pub returns-in-Some : need.returns-in-Some
 unfolding field-in
 returns-in-Some c =
-    let n = refused-not (c .args .across) (c .args .down) (c .args .walls .now) (c .args .bays .now) (c .args .shuttle) (c .args .from) (c .args .row .now) (length (c .args .route .now)) (sym (c .if-not-is-field .ensures tt)) (omega (arith, c .if-shuttle-bays .left)) (sym (c .if-not-is-asked .ensures tt)) in
     let b = c .in-Some .ensures tt (c .args .shuttle) (ends-push (getD (c .args .bays .now) (c .args .shuttle) 0) (c .args .row .now)) in
-    found _ (c .args .shuttle) (c .args .from) (c .in-Some .squares) _ (c .args .row .now) (c .through .last .made) (c .args .route .now) _ n (c .through .kept .made) b
+    found _ (c .args .shuttle) (c .args .from) (c .in-Some .squares) _ (c .args .row .now) (c .through .last .made) (c .args .route .now) _
+    (refused-not _ _ _ _ _ _ _ _ (sym (c .if-not-is-field .ensures tt)) (omega (arith, c .if-shuttle-bays .left)) (sym (c .if-not-is-asked .ensures tt)))
+    (c .through .kept .made) b
     (copied (c .in-Some .squares) (c .copy-from-slice .last .self) (c .through .last .made) (c .args .route .now) (c .copy-from-slice .ensures .after))
 
 pub returns-in-None : need.returns-in-None
 unfolding field-in
-returns-in-None c =
-    let n = refused-not (c .args .across) (c .args .down) (c .args .walls .now) (c .args .bays .now) (c .args .shuttle) (c .args .from) (c .args .row .now) (length (c .args .route .now)) (sym (c .if-not-is-field .ensures tt)) (omega (arith, c .if-shuttle-bays .left)) (sym (c .if-not-is-asked .ensures tt)) in
-    (n, nowhere-from-far _ (c .args .shuttle) (c .args .from) (c .args .row .now) (c .in-None .ensures tt (c .args .shuttle) (ends-push (getD (c .args .bays .now) (c .args .shuttle) 0) (c .args .row .now))), refl)
+returns-in-None c = (
+  refused-not _ _ _ _ _ _ _ _ (sym (c .if-not-is-field .ensures tt)) (omega (arith, c .if-shuttle-bays .left)) (sym (c .if-not-is-asked .ensures tt)),
+  nowhere-from-far _ (c .args .shuttle) (c .args .from) (c .args .row .now)
+      (c .in-None .ensures tt (c .args .shuttle) (ends-push (getD (c .args .bays .now) (c .args .shuttle) 0) (c .args .row .now))),
+  refl,
+)

@@ -2,16 +2,15 @@
 use mathlib.Core.Path.{_≡_, refl, sym, ap, _∙_}
 use mathlib.Core.List.{List}
 use mathlib.Core.Logic.{⊎-elim}
-use Prim.Native.Nat.{ℕ, _<_}
+use Prim.Native.Nat.{ℕ}
 use native.Mathlib.Omega.{arith}
-use lib.ListN.{length, getD, replicate}
+use lib.ListN.{replicate}
 use Rattle.std.proofs.shelf.Lists.{getD-replicate, getD-past, length-replicate}
 use Rattle.std.proofs.shelf.Tests.{cases-lt}
 use Rattle.rules.specs.Memory.{field-in}
-use Rattle.field.specs.Model.{field-of}
 use Rattle.ways.proofs.Expand.{distance-in}
 use Rattle.ways.proofs.Marks.{free-none, free-yes, free-not, open-none, open-more, open-all}
-use Rattle.way.proofs.Size.{sizes, bay-free, free-below}
+use Rattle.way.proofs.Size.{sizes, bay-below}
 use Rattle.way.proofs.ground.mark_ground.Needs as need
 use Rattle.way.proofs.ground.mark_ground.Needs.{then-is-free, else-is-free}
 
@@ -46,12 +45,12 @@ loop-bay-holds c = open-none _ _ _ (omega (arith, c .loop-square-test .left, c .
 
 pub index-table-bay : need.index-table-bay
 index-table-bay c =
-    omega (arith, free-below (c .args .field .now) _ (bay-free (c .args .field .now) (c .loop-bay .bay-index) (c .loop-bay-test .taken)), sizes (c .args .field .now) .squares-most, c .loop-bay .kept .table, c .loop-square .kept .table, c .fill .ensures .len, c .pre)
+    omega (arith, bay-below (c .args .field .now) (c .loop-bay .bay-index) (c .loop-bay-test .taken), c .loop-bay .kept .table, c .loop-square .kept .table, c .fill .ensures .len, c .pre)
 
 pub loop-bay-again : need.loop-bay-again
 unfolding field-in
 loop-bay-again c = open-more _ _ _ _ refl
-    (omega (arith, free-below (c .args .field .now) _ (bay-free (c .args .field .now) (c .loop-bay .bay-index) (c .loop-bay-test .taken)), sizes (c .args .field .now) .squares-most, c .loop-bay .kept .table, c .loop-square .kept .table, c .fill .ensures .len, c .pre))
+    (omega (arith, bay-below (c .args .field .now) (c .loop-bay .bay-index) (c .loop-bay-test .taken), c .loop-bay .kept .table, c .loop-square .kept .table, c .fill .ensures .len, c .pre))
     (c .loop-bay .inv)
 
 pub returns : need.returns

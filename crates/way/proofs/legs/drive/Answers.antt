@@ -1,9 +1,8 @@
 -- The distances bound the leg that was walked along them.
-use mathlib.Core.Path.{_≡_, refl, sym, ap, _∙_}
+use mathlib.Core.Path.{_≡_}
 use mathlib.Core.List.{List}
-use Prim.Native.Nat.{ℕ, _+_, _-_, _<_, _≤_}
+use Prim.Native.Nat.{ℕ, _-_, _≤_}
 use native.Mathlib.Omega.{arith}
-use lib.ListN.{length}
 use Rattle.std.specs.declared.option.Option.the-variants.{Some}
 use Rattle.field.specs.Model.{field-of}
 use Rattle.ways.proofs.Leg.{falls-length}

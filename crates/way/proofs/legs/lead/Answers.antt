@@ -1,14 +1,11 @@
 -- Each goal is met where one stands or walked to; where one is too far, so is the whole way.
-use mathlib.Core.Path.{_≡_, refl, sym, ap, subst, _∙_}
-use mathlib.Core.List.{List}
-use Prim.Native.Nat.{ℕ, _+_, _<_, _≤_}
+use mathlib.Core.Path.{_≡_, sym, subst}
+use Prim.Native.Nat.{ℕ}
 use native.Mathlib.Omega.{arith}
-use lib.ListN.{length, getD, take}
 use Rattle.std.specs.Options.{Cases}
 use Rattle.std.specs.declared.option.Option.{Option}
 use Rattle.std.specs.declared.option.Option.the-variants.{None}
-use Rattle.field.specs.Model.{field-of}
-use Rattle.ways.proofs.Leading.{leading-start, leading-met, leading-leg, leading-far, leading-end}
+use Rattle.ways.proofs.Leading.{leading-met, leading-leg, leading-far, leading-end}
 use Rattle.way.proofs.legs.lead.Needs as need
 use Rattle.way.proofs.legs.lead.Needs.{then-goal-at·in-Continue-len, else-goal-at}
 

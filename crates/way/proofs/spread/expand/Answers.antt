@@ -10,7 +10,7 @@ use Rattle.field.specs.Model.{field-of}
 use Rattle.ways.specs.Around.{around}
 use Rattle.ways.proofs.Around.{around-inside}
 use Rattle.ways.proofs.Distances.{enter-inside}
-use Rattle.ways.proofs.Expand.{Expanding, distance-in, unknown, expand-start, expand-pass, expand-put, expand-done, put-room, put-kept}
+use Rattle.ways.proofs.Expand.{Expanding, distance-in, expand-start, expand-pass, expand-put, expand-done, put-room, put-kept}
 use Rattle.way.specs.declared.leg.Leg.{Leg}
 use Rattle.way.specs.Table.{Waiting}
 use Rattle.way.proofs.Size.{sizes}

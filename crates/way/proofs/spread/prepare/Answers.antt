@@ -1,17 +1,17 @@
 -- The table of a leg is the ground's with the start and the goal written.
-use mathlib.Core.Bool.{Bool, true, false, _&&_, _||_}
-use mathlib.Core.Path.{_≡_, refl, sym, ap, subst, _∙_}
+use mathlib.Core.Bool.{Bool, true, _&&_}
+use mathlib.Core.Path.{_≡_, sym, ap, _∙_}
 use mathlib.Core.List.{List}
-use Prim.Native.Nat.{ℕ, _<_}
+use Prim.Native.Nat.{ℕ}
 use native.Mathlib.Omega.{arith}
 use lib.ListN.{length, getD, set}
 use Rattle.std.proofs.shelf.Lists.{getD-default, getD-set-same, getD-set-other, length-set}
-use Rattle.std.proofs.shelf.Tests.{both-ways, eq-eqb}
+use Rattle.std.proofs.shelf.Tests.{both-ways, eq-eqb, and-left}
 use Rattle.rules.specs.Field.{free-square}
 use Rattle.field.specs.Model.{field-of}
 use Rattle.ways.proofs.Good.{enter}
 use Rattle.ways.proofs.Expand.{distance-in}
-use Rattle.ways.proofs.Ground.{Ground, is-open, ground-prepared, ground-open, ground-shut, goal-open}
+use Rattle.ways.proofs.Ground.{ground-prepared, ground-open, ground-shut, goal-open}
 use Rattle.way.specs.declared.leg.Leg.{Leg}
 use Rattle.way.specs.Table.{Ready, OverGround}
 use Rattle.way.proofs.Size.{start-below, goal-below}
@@ -33,14 +33,23 @@ written l ground table long G same e =
 read : (l : Leg) (ground : List ℕ) → length ground ≡ 4096 → getD ground (l .goal) 0 ≡ distance-in ground (l .goal)
 read l ground long = getD-default ground (l .goal) 0 65534 (omega (arith, goal-below l))
 
-entered : (b e f : Bool) (x : Bool) → b ≡ true → x ≡ (b || (e && f)) → x ≡ true
-entered b e f x p q = grind arith
+-- whether the goal may be entered, by the ground, and else as the end
+by-ground :
+    (l : Leg) (ground : List ℕ) → length ground ≡ 4096 → OverGround l ground → getD ground (l .goal) 0 ≡ 65535
+    → enter (field-of (l .field)) (l .goal) (l .last) (l .goal) ≡ true
+by-ground l ground long G e =
+    let o = ground-open (field-of (l .field)) ground (l .goal) G (sym (read l ground long) ∙ e) in
+    let q = goal-open (field-of (l .field)) (l .goal) (l .last) in grind arith
 
-by-end : (b e f : Bool) (x : Bool) → b ≡ false → e ≡ true → x ≡ (b || (e && f)) → x ≡ f
-by-end b e f x p r q = grind arith
+by-end :
+    (l : Leg) (ground : List ℕ) → length ground ≡ 4096 → OverGround l ground → (getD ground (l .goal) 0 ≡ 65535 → ⊥)
+    → enter (field-of (l .field)) (l .goal) (l .last) (l .goal) ≡ (l .last && free-square (field-of (l .field)) (l .goal))
+by-end l ground long G ne =
+    let o = ground-shut (field-of (l .field)) ground (l .goal) G (λ z. ne (read l ground long ∙ z)) in
+    let q = goal-open (field-of (l .field)) (l .goal) (l .last) in grind arith
 
-not-at-all : (b e f : Bool) (x : Bool) → b ≡ false → e ≡ false → x ≡ (b || (e && f)) → x ≡ false
-not-at-all b e f x p r q = grind arith
+and-is : (x y : Bool) → x ≡ true → (x && y) ≡ y
+and-is x y e = grind arith
 
 pub index-ground-goal : need.index-ground-goal
 index-ground-goal c = omega (arith, goal-below (c .args .leg .now), c .pre .long .0)
@@ -56,15 +65,16 @@ pub returns : need.returns
 returns c =
     let l = c .args .leg .now in
     let gr = c .args .ground .now in
-    let f = field-of (l .field) in
-    let rd = read l gr (c .pre .long .0) in
-    let same : enter f (l .goal) (l .last) (l .goal) ≡ c .if-ground-goal .open =
+    let same : enter (field-of (l .field)) (l .goal) (l .last) (l .goal) ≡ c .if-ground-goal .open =
     elim (c .if-ground-goal .came) [
-      | then-ground-goal w ↦ entered (is-open f (l .goal)) (l .last) (free-square f (l .goal)) _ (ground-open f gr (l .goal) (c .pre .over) (sym rd ∙ w .if-ground-goal .taken)) (goal-open f (l .goal) (l .last)) ∙ (sym (eq-eqb _ _ (w .if-ground-goal .taken)) ∙ sym (w .open-is))
-      | else-ground-goal·then-leg w ↦ by-end (is-open f (l .goal)) (l .last) (free-square f (l .goal)) _ (ground-shut f gr (l .goal) (c .pre .over) (λ z. w .if-ground-goal .left (rd ∙ z))) (w .if-leg .taken) (goal-open f (l .goal) (l .last)) ∙ (sym (w .is-free .ensures) ∙ sym (w .open-is))
-      | else-ground-goal·else-leg w ↦ not-at-all (is-open f (l .goal)) (l .last) (free-square f (l .goal)) _ (ground-shut f gr (l .goal) (c .pre .over) (λ z. w .if-ground-goal .left (rd ∙ z))) (w .if-leg .left) (goal-open f (l .goal) (l .last)) ∙ (sym (w .if-leg .left) ∙ sym (w .open-is))
+      | then-ground-goal w ↦
+          by-ground l gr (c .pre .long .0) (c .pre .over) (w .if-ground-goal .taken) ∙ (sym (eq-eqb _ _ (w .if-ground-goal .taken)) ∙ sym (w .open-is))
+      | else-ground-goal·then-leg w ↦
+          by-end l gr (c .pre .long .0) (c .pre .over) (w .if-ground-goal .left) ∙ (and-is (l .last) _ (w .if-leg .taken) ∙ (sym (w .is-free .ensures) ∙ sym (w .open-is)))
+      | else-ground-goal·else-leg w ↦
+          by-end l gr (c .pre .long .0) (c .pre .over) (w .if-ground-goal .left) ∙ (and-left (l .last) _ (w .if-leg .left) ∙ (sym (w .if-leg .left) ∙ sym (w .open-is)))
     ] in
     record {
       «open» = λ t. written l gr (c .copy-from-slice .last .self) (c .pre .long .0) (c .pre .over) (c .copy-from-slice .ensures .after) (same ∙ t);
-      shut = λ t e. both-ways (enter f (l .goal) (l .last) (l .goal)) (same ∙ t) e;
+      shut = λ t e. both-ways _ (same ∙ t) e;
     }

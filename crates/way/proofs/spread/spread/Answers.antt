@@ -1,17 +1,14 @@
 -- The queue starts with the goal alone, and is expanded until the start is known or it is empty.
-use mathlib.Core.Path.{_≡_, refl, sym, ap, subst, _∙_}
-use mathlib.Core.Logic.{inl, inr}
+use mathlib.Core.Path.{_≡_, _∙_}
+use mathlib.Core.Logic.{inr}
 use mathlib.Core.List.{List}
-use Prim.Native.Nat.{ℕ, suc, _+_, _<_}
+use Prim.Native.Nat.{ℕ, _<_}
 use native.Mathlib.Numerals.{add-one}
 use native.Mathlib.Omega.{arith}
-use lib.ListN.{length, getD}
+use lib.ListN.{length}
 use Rattle.std.proofs.shelf.Lists.{getD-default, getD-set-same, length-set}
-use Rattle.field.specs.Model.{field-of}
-use Rattle.ways.proofs.Expand.{distance-in}
 use Rattle.ways.proofs.Prepared.{prepared-spread, prepared-room, spread-distances}
 use Rattle.way.specs.declared.leg.Leg.{Leg}
-use Rattle.way.specs.Table.{Spreads}
 use Rattle.way.proofs.Size.{start-below, goal-below}
 use Rattle.way.proofs.spread.spread.Needs as need
 

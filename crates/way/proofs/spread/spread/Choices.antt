@@ -1,7 +1,5 @@
 -- What holds while distances spread; each turn takes one more square from the queue.
-use mathlib.Core.Path.{_≡_}
 use Prim.Native.Nat.{_+_, _-_, _≤_}
-use lib.ListN.{length}
 use Rattle.ways.proofs.Expand.{unknown}
 use Rattle.way.specs.Table.{Spreads}
 use Rattle.way.proofs.spread.spread.Given as given

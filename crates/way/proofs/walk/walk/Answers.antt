@@ -1,10 +1,5 @@
 -- Each turn goes to the first square around that is one nearer, until the walk is at its goal.
-use mathlib.Core.Path.{_≡_, refl, sym, ap, _∙_}
-use Prim.Native.Nat.{ℕ, suc, _+_, _<_}
 use native.Mathlib.Omega.{arith}
-use lib.ListN.{length}
-use Rattle.ways.proofs.Distances.{capped}
-use Rattle.ways.proofs.Expand.{distance-in}
 use Rattle.ways.proofs.Walk.{walk-start, walk-more, walk-end}
 use Rattle.way.proofs.walk.walk.Needs as need
 

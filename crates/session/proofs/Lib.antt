@@ -1,0 +1,4 @@
+-- Lemmas behind the contracts.
+mod Asking
+mod Signs
+mod Turns

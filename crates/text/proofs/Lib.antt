@@ -1,0 +1,5 @@
+-- Lemmas behind the contracts.
+mod Cutting
+mod Reading
+mod Squares
+mod Verdicts
