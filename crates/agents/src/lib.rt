@@ -1,5 +1,7 @@
 // The theory of agents that block each other. Each function says a theorem in its contract, so that the check asks for
 // its proof; it computes nothing.
+#![tactic(auto)]
+
 ghost use Rattle.agents.specs.Statements.{TakingOutIsRight, AnyOrderIsRight, AnyOrderTries, OrdersAreFound, FewerBlocksKeepOrders, SomeOneIsFree, GoesOrWaits};
 ghost use Rattle.agents.specs.Statements.{MayIsGranted, GrantsKeepSafety, SomeGoes};
 

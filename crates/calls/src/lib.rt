@@ -1,5 +1,7 @@
 // The promises over memory and calls. Each function says one of them in its contract, so that the check asks for its
 // proof; it computes nothing.
+#![tactic(auto)]
+
 ghost use Rattle.calls.specs.Call.{StoredIsRead, StaysAccepted, Follows, RowIsPlayed, KeepsPromises, StepLeavesLess, EventLeavesLess};
 
 // Writing one shuttle into memory changes that shuttle and nothing else.

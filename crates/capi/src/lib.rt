@@ -1,4 +1,6 @@
 // The entry for C: the same numbers and slices, a slice being a pointer and a length, and one number as the answer.
+#![tactic(auto)]
+
 ghost use Rattle.std.specs.Prelude.{◌≡◌, suc, ◌≤◌, length};
 ghost use Rattle.rules.specs.Memory.{field_in, event_in, shuttle_in, refusal};
 ghost use Rattle.promise.specs.Promise.{sum_to, squares_left, events_left};
@@ -6,12 +8,12 @@ ghost use Rattle.calls.specs.Call.{Says, Reached, Promised};
 ghost use Rattle.hall.specs.Answer.{number};
 ghost use Rattle.hall.specs.Start.{StartSays};
 
+mod shortest;
 mod ticks;
-mod ways;
 
 use hall::Done;
+pub use shortest::way;
 pub use ticks::tick;
-pub use ways::way;
 
 // The number of an answer: 0 it happened, 1 it did not, 16 + n it was turned away by n.
 fn number_of(done: Done) -> u64

@@ -1,4 +1,6 @@
 // What both programs share: the text that they work on, and words for what is wrong.
+#![tactic(auto)]
+
 mod input;
 mod words;
 

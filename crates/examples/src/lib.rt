@@ -1,5 +1,7 @@
 // Worked examples of the rules, computed from the rules alone: whatever becomes of the theorems, these show what the rules
 // say. Each function says one of them in its contract, so that the check asks for its proof; it computes nothing.
+#![tactic(auto)]
+
 ghost use Rattle.examples.specs.Steps.{HallIsSound, EitherMayStep, OneMayStep, BlockedPairIsNotSafe};
 ghost use Rattle.examples.specs.Steps.{EachEventHappens, MovingHoldsBoth, WhenTheOtherMayStep};
 ghost use Rattle.examples.specs.Routes.{SomeRoutes};

@@ -1,4 +1,6 @@
 // Fields, squares and bays, over walls and bays that are lent.
+#![tactic(auto)]
+
 mod bays;
 mod field;
 mod marks;

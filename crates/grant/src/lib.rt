@@ -1,4 +1,6 @@
 // Steps that are granted: who holds a square, and whether a step is granted.
+#![tactic(auto)]
+
 mod held;
 mod steps;
 

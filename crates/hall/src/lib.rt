@@ -1,4 +1,6 @@
 // What happens in the hall, one event after the other, over memory that is lent.
+#![tactic(auto)]
+
 mod done;
 mod entry;
 mod event;

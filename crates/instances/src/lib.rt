@@ -1,5 +1,7 @@
 // Instances of the theorems: what they say of the worked examples, and memory in which their hypotheses hold, so that none of
 // them is empty. Each function says one of them in its contract, so that the check asks for its proof; it computes nothing.
+#![tactic(auto)]
+
 ghost use Rattle.instances.specs.Never.{NoOrderExists, BlockedPairNeverComesAbout, NoRouteOverOtherBays};
 ghost use Rattle.instances.specs.Reach.{RowIsAccepted, BusyIsReached};
 ghost use Rattle.instances.specs.Rows.{Hypotheses};

@@ -1,4 +1,6 @@
 // Judges a field and its routes.
+#![tactic(auto)]
+
 use anyhow::anyhow;
 use console::{Input, read_input, tell, turn_away};
 use field::{Field, is_field};

@@ -1,4 +1,6 @@
 // Plays a row of events in a hall.
+#![tactic(auto)]
+
 use anyhow::anyhow;
 use console::{Input, read_input, tell, turn_away};
 use session::{Clock, Command, Led, Place, Said, Session, Ticks, read_command};

@@ -1,5 +1,7 @@
 // The promises over every row of events. Each function says one of them in its contract, so that the check asks for its
 // proof; it computes nothing.
+#![tactic(auto)]
+
 ghost use Rattle.promise.specs.Promise.{Apart, NeverStuck, WayHome, LessLeft, WorkFalls, EndsHome, AlwaysTaken};
 ghost use Rattle.promise.specs.Rule.{RuleIsTheSame};
 ghost use Rattle.promise.specs.Promise.{AlwaysSafe, TryingIsRight, AlwaysPlaced, RefusedWhen};

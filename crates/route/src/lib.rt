@@ -1,4 +1,6 @@
 // Routes, judged step by step.
+#![tactic(auto)]
+
 mod steps;
 mod verdict;
 

@@ -1,4 +1,6 @@
 // Shuttles in memory, and whether all is safe.
+#![tactic(auto)]
+
 mod blocking;
 mod fleet;
 mod memory;

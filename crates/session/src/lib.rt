@@ -1,4 +1,6 @@
 // A hall that is played: commands, the hall that they change, ways and ticks in it, and its picture.
+#![tactic(auto)]
+
 mod clock;
 mod commands;
 mod leading;

@@ -1,4 +1,6 @@
 // Texts: lines and words, fields, routes and commands, and what is printed.
+#![tactic(auto)]
+
 mod answers;
 mod fields;
 mod judging;

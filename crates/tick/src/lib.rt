@@ -1,4 +1,6 @@
 // A tick: each arrival that is due is made, and one step is granted, of the one that has waited longest.
+#![tactic(auto)]
+
 mod arriving;
 mod choosing;
 mod entry;

@@ -1,5 +1,7 @@
 // Plays random halls from a fixed seed, and counts. By the rules the last four counts are 0: no two shuttles hold a
 // square, no hall is stuck, all come home, steps are answered as by all orders. The others are what the seed gives.
+#![tactic(auto)]
+
 mod game;
 
 use game::Game;

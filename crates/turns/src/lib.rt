@@ -1,5 +1,7 @@
 // What is proved of ticks. Each function says one statement in its contract, so that the check asks for its proof; it
 // computes nothing.
+#![tactic(auto)]
+
 ghost use Rattle.turns.specs.Rows.{TicksAreRows, DueCome, WaitsCount, LongestFirst};
 ghost use Rattle.turns.specs.Bound.{AllDoneInTime};
 ghost use Rattle.turns.specs.Home.{HomeInTime, HomeByTicks};

@@ -1,4 +1,6 @@
 // The shortest way of a shuttle through a row of squares and into its bay, the first by right, down, left, up.
+#![tactic(auto)]
+
 mod answer;
 mod around;
 mod asked;

@@ -1,5 +1,7 @@
 // Shortest ways as definitions, in specs/, and what is proved of them, in proofs/; the crate `way` finds what these say.
 // Each function here says a law in its contract, so that the check asks for its proof; it computes nothing.
+#![tactic(auto)]
+
 ghost use Rattle.ways.specs.Law.{OneWay, OnlyOne};
 
 // Of two routes that differ at most one comes before the other.

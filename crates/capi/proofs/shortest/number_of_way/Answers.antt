@@ -1,7 +1,7 @@
 -- Each case has its number.
 use Rattle.std.proofs.Common.{sym, ap, arith}
 use Rattle.capi.specs.Numbers.{way_number}
-use Rattle.capi.proofs.ways.number_of_way.Goals as goal
+use Rattle.capi.proofs.shortest.number_of_way.Goals as goal
 
 pub overflow-mul-result : goal.overflow-mul-result
 unfolding way_number
