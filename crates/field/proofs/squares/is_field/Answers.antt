@@ -13,10 +13,10 @@ pub returns-then-walls-across : goal.returns-then-walls-across
 unfolding field_ok field_in sound
 returns-then-walls-across c = grind (arith, nat_tests)
 
-pub returns-then-are-marks : goal.returns-then-are-marks
+pub returns-then-are_marks : goal.returns-then-are_marks
 unfolding field_ok field_in sound
-returns-then-are-marks c = grind (arith, nat_tests)
+returns-then-are_marks c = grind (arith, nat_tests)
 
-pub returns-else-are-marks : goal.returns-else-are-marks
+pub returns-else-are_marks : goal.returns-else-are_marks
 unfolding field_ok field_in sound
-returns-else-are-marks c = grind (arith, nat_tests)
+returns-else-are_marks c = grind (arith, nat_tests)

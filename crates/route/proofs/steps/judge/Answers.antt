@@ -9,12 +9,12 @@ use Rattle.route.specs.Judged.{verdict, is_right}
 use Rattle.route.proofs.Judging.{judging_more, judged_wrong, judged_end, last_step}
 use Rattle.route.proofs.steps.judge.Goals as goal
 
-pub returns-then-not-may-step : goal.returns-then-not-may-step
+pub returns-then-not-may_step : goal.returns-then-not-may_step
 unfolding is_right
-returns-then-not-may-step c =
+returns-then-not-may_step c =
     let r = c.args.route.now in
     let k = c.loop-k.k in
-    let wrong = sym (c.may-step.ensures c.args.shuttle _ refl (last_step r k c.loop-k-test.true)) ∙ c.if-not-may-step.true in
+    let wrong = sym (c.may_step.ensures c.args.shuttle _ refl (last_step r k c.loop-k-test.true)) ∙ c.if-not-may_step.true in
     let both = judged_wrong _ _ _ c.loop-k.at k r c.loop-k-test.true wrong c.loop-k.invariant in
     record { judged = sym both.0; right = sym both.1 }
 
@@ -22,7 +22,7 @@ pub loop-k-preserved : goal.loop-k-preserved
 loop-k-preserved c =
     let r = c.args.route.now in
     let k = c.loop-k.k in
-    let ok = sym (c.may-step.ensures c.args.shuttle _ refl (last_step r k c.loop-k-test.true)) ∙ c.if-not-may-step.false in
+    let ok = sym (c.may_step.ensures c.args.shuttle _ refl (last_step r k c.loop-k-test.true)) ∙ c.if-not-may_step.false in
     judging_more _ _ _ c.loop-k.at k r c.loop-k-test.true ok c.loop-k.invariant
 
 pub returns-then-at-home : goal.returns-then-at-home

@@ -4,35 +4,35 @@ use Rattle.safety.specs.Masks.{has}
 use Rattle.safety.proofs.Fitting.{count_most, fitting}
 use Rattle.safety.proofs.blocking.blockers.Goals as goal
 
-pub offset-bounds-fleet-i : goal.offset-bounds-fleet-i
-offset-bounds-fleet-i c = let few = count_most c.args.fleet.now in omega arith
+pub offset_bounds-fleet-i : goal.offset_bounds-fleet-i
+offset_bounds-fleet-i c = let few = count_most c.args.fleet.now in omega arith
 
 pub bounds-fleet-i : goal.bounds-fleet-i
 bounds-fleet-i c = let few = count_most c.args.fleet.now in omega arith
 
-pub offset-bounds-fleet-i-in-loop-i : goal.offset-bounds-fleet-i-in-loop-i
-offset-bounds-fleet-i-in-loop-i c = let few = count_most c.args.fleet.now in omega arith
+pub offset_bounds-fleet-i-in-loop-i : goal.offset_bounds-fleet-i-in-loop-i
+offset_bounds-fleet-i-in-loop-i c = let few = count_most c.args.fleet.now in omega arith
 
 pub bounds-fleet-i-in-loop-i : goal.bounds-fleet-i-in-loop-i
 bounds-fleet-i-in-loop-i c = let few = count_most c.args.fleet.now in omega arith
 
-pub offset-bounds-fleet-from : goal.offset-bounds-fleet-from
-offset-bounds-fleet-from c = let k = fitting c.args.fleet.now c.loop-i.i c.loop-i-test.true in omega arith
+pub offset_bounds-fleet-from : goal.offset_bounds-fleet-from
+offset_bounds-fleet-from c = let k = fitting c.args.fleet.now c.loop-i.i c.loop-i-test.true in omega arith
 
-pub slice-bounds-met-on-count : goal.slice-bounds-met-on-count
-slice-bounds-met-on-count c = let k = (fitting c.args.fleet.now c.loop-i.i c.loop-i-test.true).forward in omega arith
+pub slice_bounds-met_on-count : goal.slice_bounds-met_on-count
+slice_bounds-met_on-count c = let k = (fitting c.args.fleet.now c.loop-i.i c.loop-i-test.true).forward in omega arith
 
-pub slice-bounds-met-on-start : goal.slice-bounds-met-on-start
-slice-bounds-met-on-start c = let k = (fitting c.args.fleet.now c.loop-i.i c.loop-i-test.true).forward in omega arith
+pub slice_bounds-met_on-start : goal.slice_bounds-met_on-start
+slice_bounds-met_on-start c = let k = (fitting c.args.fleet.now c.loop-i.i c.loop-i-test.true).forward in omega arith
 
-pub slice-bounds-met-on-end : goal.slice-bounds-met-on-end
-slice-bounds-met-on-end c = let k = (fitting c.args.fleet.now c.loop-i.i c.loop-i-test.true).within in omega arith
+pub slice_bounds-met_on-end : goal.slice_bounds-met_on-end
+slice_bounds-met_on-end c = let k = (fitting c.args.fleet.now c.loop-i.i c.loop-i-test.true).within in omega arith
 
-pub met-on-requires : goal.met-on-requires
-met-on-requires c = record { long = c.requires; squares = (fitting c.args.fleet.now c.loop-i.i c.loop-i-test.true).squares }
+pub met_on-requires : goal.met_on-requires
+met_on-requires c = record { long = c.requires; squares = (fitting c.args.fleet.now c.loop-i.i c.loop-i-test.true).squares }
 
-pub offset-bounds-sets-i : goal.offset-bounds-sets-i
-offset-bounds-sets-i c = let few = count_most c.args.fleet.now in omega arith
+pub offset_bounds-sets-i : goal.offset_bounds-sets-i
+offset_bounds-sets-i c = let few = count_most c.args.fleet.now in omega arith
 
 pub bounds-sets-i : goal.bounds-sets-i
 bounds-sets-i c = let few = count_most c.args.fleet.now in omega arith

@@ -9,17 +9,17 @@ use Rattle.safety.proofs.blocking.stand.Goals as goal
 pub loop-j-init : goal.loop-j-init
 loop-j-init c = (c.requires.long, stands_none _ c.args.table.now c.requires.clear)
 
-pub offset-bounds-fleet-j : goal.offset-bounds-fleet-j
-offset-bounds-fleet-j c = let few = count_most c.args.fleet.now in omega arith
+pub offset_bounds-fleet-j : goal.offset_bounds-fleet-j
+offset_bounds-fleet-j c = let few = count_most c.args.fleet.now in omega arith
 
 pub bounds-fleet-j : goal.bounds-fleet-j
 bounds-fleet-j c = let few = count_most c.args.fleet.now in omega arith
 
-pub overflow-cast-table : goal.overflow-cast-table
-overflow-cast-table c = let few = count_most c.args.fleet.now in omega arith
+pub overflow_cast-table : goal.overflow_cast-table
+overflow_cast-table c = let few = count_most c.args.fleet.now in omega arith
 
-pub overflow-shl-table : goal.overflow-shl-table
-overflow-shl-table c = let few = count_most c.args.fleet.now in omega arith
+pub overflow_shl-table : goal.overflow_shl-table
+overflow_shl-table c = let few = count_most c.args.fleet.now in omega arith
 
 pub bounds-table-at : goal.bounds-table-at
 bounds-table-at c =

@@ -11,7 +11,7 @@ loop-c-init c = (omega arith, lt-ltb 0 c.args.squares c.requires)
 
 pub loop-c-preserved : goal.loop-c-preserved
 loop-c-preserved c = (
-  c.max-most.type-inv,
+  c.max-most.type_inv,
   rw c.max-most.ensures
       (max_more (λ x. ltb x c.args.squares) (ltb_max c.args.squares) c.args.part.now c.loop-c.most c.loop-c.c-index
       (omega arith) c.loop-c.invariant.1),

@@ -7,8 +7,8 @@ use Rattle.rules.proofs.Tests.{every_to_none, every_to_next, every_to_broken}
 use Rattle.field.proofs.Facts.{facts}
 use Rattle.safety.proofs.memory.is_memory.Goals as goal
 
-pub overflow-mul-count : goal.overflow-mul-count
-overflow-mul-count c = let few = (facts c.args.field.now).few in omega arith
+pub overflow_mul-count : goal.overflow_mul-count
+overflow_mul-count c = let few = (facts c.args.field.now).few in omega arith
 
 pub returns-then-memory-count : goal.returns-then-memory-count
 unfolding memory_ok
@@ -17,21 +17,21 @@ returns-then-memory-count c = sym (and_left _ _ (ne_eqb _ _ c.if-memory-count.tr
 pub loop-i-init : goal.loop-i-init
 loop-i-init c = every_to_none _
 
-pub is-shuttle-requires : goal.is-shuttle-requires
-is-shuttle-requires c =
+pub is_shuttle-requires : goal.is_shuttle-requires
+is_shuttle-requires c =
     let k = facts c.args.field.now in
     let long = k.walls_long in
     let least = k.squares_least in record { some = omega arith; there = omega arith }
 
-pub returns-then-not-is-shuttle : goal.returns-then-not-is-shuttle
+pub returns-then-not-is_shuttle : goal.returns-then-not-is_shuttle
 unfolding memory_ok
-returns-then-not-is-shuttle c =
+returns-then-not-is_shuttle c =
     let long = (facts c.args.field.now).walls_long in
-    let bad = sym c.is-shuttle.ensures ∙ c.if-not-is-shuttle.true in
+    let bad = sym c.is_shuttle.ensures ∙ c.if-not-is_shuttle.true in
     rw (← long) (sym (and_right _ _ (every_to_broken _ _ c.loop-i.i c.loop-i-test.true bad)))
 
 pub loop-i-preserved : goal.loop-i-preserved
-loop-i-preserved c = every_to_next _ c.loop-i.i (sym c.is-shuttle.ensures ∙ c.if-not-is-shuttle.false) c.loop-i.invariant
+loop-i-preserved c = every_to_next _ c.loop-i.i (sym c.is_shuttle.ensures ∙ c.if-not-is_shuttle.false) c.loop-i.invariant
 
 pub returns : goal.returns
 unfolding memory_ok

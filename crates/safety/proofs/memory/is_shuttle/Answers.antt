@@ -17,4 +17,4 @@ unfolding shuttle_ok
 returns c =
     let left = get_or c.args.memory.now (260 * c.args.i + 3) 0 in
     let d : 260 * c.args.i + 4 + left - (260 * c.args.i + 4) ≡ left = omega arith in
-    let e = rw d at c.are-squares.ensures in grind (arith, nat_tests, e)
+    let e = rw d at c.are_squares.ensures in grind (arith, nat_tests, e)

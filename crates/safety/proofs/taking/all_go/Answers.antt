@@ -16,23 +16,23 @@ returns-then-next-out c =
     let n = c.args.count in
     let out = c.loop-out.out in
     let all = c.everybody-all.result in
-    let stuck = round_stuck bs n (λ i. omega (arith, c.type-inv.blockers i)) c.requires.below out (sym c.taken-out-next.ensures ∙ c.if-next-out.true) in (
+    let stuck = round_stuck bs n (λ i. omega (arith, c.type_inv.blockers i)) c.requires.below out (sym c.taken_out-next.ensures ∙ c.if-next-out.true) in (
       λ h i l.
           let there : has all i ≡ true = c.everybody-all.ensures i ∙ lt-ltb i n l in
           let is_out : has out i ≡ true = ap (λ t. has t i) (sym (eqb-true _ _ h)) ∙ has_or all out i ∙ or_left _ _ there in
           c.loop-out.invariant.1 i l is_out,
-      λ go. eq-eqb _ _ (or_within 16 all out c.everybody-all.type-inv (λ j m h.
+      λ go. eq-eqb _ _ (or_within 16 all out c.everybody-all.type_inv (λ j m h.
           not-false _ (set_stuck n _ _ (λ i. not (has out i)) stuck (go j (ltb-true j n (sym (c.everybody-all.ensures j) ∙ h)))))),
     )
 
 pub loop-out-smaller : goal.loop-out-smaller
 loop-out-smaller c =
     let more = round_more c.args.blockers.now c.args.count c.loop-out.out in
-    let is = c.taken-out-next.ensures in
-    let ok = c.taken-out-next.type-inv in omega arith
+    let is = c.taken_out-next.ensures in
+    let ok = c.taken_out-next.type_inv in omega arith
 
 pub loop-out-preserved : goal.loop-out-preserved
 loop-out-preserved c = (
-  c.taken-out-next.type-inv,
-  rw c.taken-out-next.ensures (round_can c.args.blockers.now c.args.count c.args.count c.loop-out.out (omega arith) c.loop-out.invariant.1),
+  c.taken_out-next.type_inv,
+  rw c.taken_out-next.ensures (round_can c.args.blockers.now c.args.count c.args.count c.loop-out.out (omega arith) c.loop-out.invariant.1),
 )

@@ -6,14 +6,14 @@ use Rattle.text.proofs.fields.bays_of.Goals as goal
 
 pub returns-then-square-all : goal.returns-then-square-all
 returns-then-square-all c =
-    let none = bay_over c.loop-k.k c.args.all.now (omega arith) (sym c.bytes-before-square.ensures.value ∙ c.if-square-all.true) in
+    let none = bay_over c.loop-k.k c.args.all.now (omega arith) (sym c.bytes_before-square.ensures.value ∙ c.if-square-all.true) in
     sym (append-nil (vec_items c.loop-k.bays)) ∙ ap (λ l. vec_items c.loop-k.bays ++ l) (sym none) ∙ c.loop-k.invariant
 
 pub loop-k-preserved : goal.loop-k-preserved
 loop-k-preserved c =
-    let value = c.bytes-before-square.ensures.value in
-    let more = bay_more c.loop-k.k c.args.all.now (omega arith) (omega (arith, c.bytes-before-square.ensures.bound, value)) in
-    let items = c.in-ok-push.ensures.items in
+    let value = c.bytes_before-square.ensures.value in
+    let more = bay_more c.loop-k.k c.args.all.now (omega arith) (omega (arith, c.bytes_before-square.ensures.bound, value)) in
+    let items = c.in_ok-push.ensures.items in
     let inv = c.loop-k.invariant in
     let least = c.min.ensures in
     let square = ap (λ n. min n 65535) value in

@@ -5,4 +5,4 @@ use Rattle.text.proofs.fields.has.Goals as goal
 
 pub returns : goal.returns
 returns c =
-    ap (λ n. ltb n (length c.args.signs.now)) c.bytes-before.ensures.value ∙ among_is c.args.sign c.args.signs.now
+    ap (λ n. ltb n (length c.args.signs.now)) c.bytes_before.ensures.value ∙ among_is c.args.sign c.args.signs.now

@@ -7,25 +7,25 @@ use Rattle.text.specs.Fields.{wall_mark, bays_from}
 use Rattle.text.proofs.Reading.{fault_misfit, fault_gap}
 use Rattle.text.proofs.fields.read_field.Goals as goal
 
-pub returns-in-err-signs : goal.returns-in-err-signs
-returns-in-err-signs c =
-    let p = err_from_is_err_and c.from-residual.result c.from-residual.ensures.1 in
-    rw (p.1, p.2) (fault_misfit (pieces c.args.rows.now) c.across-in-across.result _ c.across-in-across.ensures c.in-err-signs.ensures)
+pub returns-in_err-signs : goal.returns-in_err-signs
+returns-in_err-signs c =
+    let p = err_from_is_err_and c.from_residual.result c.from_residual.ensures.1 in
+    rw (p.1, p.2) (fault_misfit (pieces c.args.rows.now) c.across_in-across.result _ c.across_in-across.ensures c.in_err-signs.ensures)
 
 pub returns-in-Some : goal.returns-in-Some
 returns-in-Some c =
-    fault_gap (pieces c.args.rows.now) c.across-in-across.result c.as-slice.result.now _ c.across-in-across.ensures
-    c.in-ok-signs.ensures.0 (c.as-slice.ensures.value ∙ c.in-ok-signs.ensures.1) (sym c.first-gap.ensures ∙ c.in-Some.is)
+    fault_gap (pieces c.args.rows.now) c.across_in-across.result c.as_slice.result.now _ c.across_in-across.ensures
+    c.in_ok-signs.ensures.0 (c.as_slice.ensures.value ∙ c.in_ok-signs.ensures.1) (sym c.first_gap.ensures ∙ c.in-Some.is)
 
 pub returns : goal.returns
 returns c =
-    let are = c.in-ok-signs.ensures.1 in
+    let are = c.in_ok-signs.ensures.1 in
     record {
       readable =
-          fault_gap (pieces c.args.rows.now) c.across-in-across.result c.as-slice.result.now _ c.across-in-across.ensures
-          c.in-ok-signs.ensures.0 (c.as-slice.ensures.value ∙ are) (sym c.first-gap.ensures ∙ c.in-default.is);
-      is_across = c.across-in-across.ensures;
+          fault_gap (pieces c.args.rows.now) c.across_in-across.result c.as_slice.result.now _ c.across_in-across.ensures
+          c.in_ok-signs.ensures.0 (c.as_slice.ensures.value ∙ are) (sym c.first_gap.ensures ∙ c.in_default.is);
+      is_across = c.across_in-across.ensures;
       is_down = sym (length-map c.args.rows.now (λ r. r.now));
-      are_walls = c.in-ok-walls.ensures ∙ ap (map wall_mark) (c.as-slice-2.ensures.value ∙ are);
-      are_bays = c.in-ok-bays.ensures ∙ ap (bays_from 16 97) (c.as-slice-3.ensures.value ∙ are);
+      are_walls = c.in_ok-walls.ensures ∙ ap (map wall_mark) (c.as_slice-2.ensures.value ∙ are);
+      are_bays = c.in_ok-bays.ensures ∙ ap (bays_from 16 97) (c.as_slice-3.ensures.value ∙ are);
     }

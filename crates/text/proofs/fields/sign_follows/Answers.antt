@@ -15,6 +15,6 @@ unfolding sign_fits
 returns-else-not-has c =
     let both = among_both c.args.sign c.args.before.now c.args.row.now in grind (arith, nat_tests, both)
 
-pub returns-else-is-bay-letter : goal.returns-else-is-bay-letter
+pub returns-else-is_bay_letter : goal.returns-else-is_bay_letter
 unfolding sign_fits
-returns-else-is-bay-letter c = grind (arith, nat_tests)
+returns-else-is_bay_letter c = grind (arith, nat_tests)

@@ -3,13 +3,13 @@ use Rattle.std.proofs.Common.{◌++◌, take, sym, ◌∙◌, arith}
 use Rattle.text.proofs.Reading.{sign_more, sign_wrong, signs_over}
 use Rattle.text.proofs.fields.signs_follow.Goals as goal
 
-pub returns-then-not-sign-follows : goal.returns-then-not-sign-follows
-returns-then-not-sign-follows c =
-    sym (sign_wrong c.args.before.now c.args.row.now c.loop-i.i (omega arith) c.if-not-sign-follows.ensures) ∙ c.loop-i.invariant
+pub returns-then-not-sign_follows : goal.returns-then-not-sign_follows
+returns-then-not-sign_follows c =
+    sym (sign_wrong c.args.before.now c.args.row.now c.loop-i.i (omega arith) c.if-not-sign_follows.ensures) ∙ c.loop-i.invariant
 
 pub loop-i-preserved : goal.loop-i-preserved
 loop-i-preserved c =
-    sym (sign_more c.args.before.now c.args.row.now c.loop-i.i (omega arith) c.if-not-sign-follows.ensures) ∙ c.loop-i.invariant
+    sym (sign_more c.args.before.now c.args.row.now c.loop-i.i (omega arith) c.if-not-sign_follows.ensures) ∙ c.loop-i.invariant
 
 pub returns : goal.returns
 returns c =

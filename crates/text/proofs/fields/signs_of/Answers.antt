@@ -3,18 +3,18 @@ use Rattle.std.proofs.Common.{vec_items, sym, ◌∙◌, arith}
 use Rattle.text.proofs.Reading.{fit_turn, fit_wrong, rows_over}
 use Rattle.text.proofs.fields.signs_of.Goals as goal
 
-pub returns-then-not-row-follows : goal.returns-then-not-row-follows
-returns-then-not-row-follows c =
-    let wrong = fit_wrong c.args.across c.as-slice.result.now c.args.rows.now c.loop-i.i _ (omega arith) c.if-not-row-follows.ensures in
+pub returns-then-not-row_follows : goal.returns-then-not-row_follows
+returns-then-not-row_follows c =
+    let wrong = fit_wrong c.args.across c.as_slice.result.now c.args.rows.now c.loop-i.i _ (omega arith) c.if-not-row_follows.ensures in
     let inv = c.loop-i.invariant.0 in
-    let same = c.as-slice.ensures.value in
+    let same = c.as_slice.ensures.value in
     cc
 
 pub loop-i-preserved : goal.loop-i-preserved
 loop-i-preserved c =
     let turn =
-    fit_turn c.args.across c.as-slice.result.now (vec_items c.loop-i.signs) (vec_items c.extend-from-slice.new.self) c.args.rows.now c.loop-i.i _
-    (omega arith) c.if-not-row-follows.ensures c.as-slice.ensures.value c.in-ok-extend-from-slice.ensures.items
+    fit_turn c.args.across c.as_slice.result.now (vec_items c.loop-i.signs) (vec_items c.extend_from_slice.new.self) c.args.rows.now c.loop-i.i _
+    (omega arith) c.if-not-row_follows.ensures c.as_slice.ensures.value c.in_ok-extend_from_slice.ensures.items
     in
     (turn.0 ∙ c.loop-i.invariant.0, turn.1 ∙ c.loop-i.invariant.1)
 

@@ -7,9 +7,9 @@ use Rattle.text.proofs.fields.walls_of.Goals as goal
 pub loop-sign-preserved : goal.loop-sign-preserved
 loop-sign-preserved c =
     let more = map_more wall_mark c.args.all.now c.loop-sign.sign-index 0 (omega arith) in
-    let items = c.in-ok-push.ensures.items in
+    let items = c.in_ok-push.ensures.items in
     let inv = c.loop-sign.invariant in
-    let mark = c.mark-of.ensures in
+    let mark = c.mark_of.ensures in
     cc
 
 pub returns : goal.returns

@@ -8,14 +8,14 @@ pub returns-then-end-eq0 : goal.returns-then-end-eq0
 returns-then-end-eq0 c =
     record {
       cut = λ more. absurd (omega arith);
-      none = λ _. blank_off c.args.line.now c.requires (sym c.bytes-before-end.ensures.value ∙ c.if-end-eq0.true);
+      none = λ _. blank_off c.args.line.now c.requires (sym c.bytes_before-end.ensures.value ∙ c.if-end-eq0.true);
       less = rw (take_rest, length-drop) (omega arith);
     }
 
 pub returns-else-end-eq0 : goal.returns-else-end-eq0
 returns-else-end-eq0 c =
     record {
-      cut = λ _. word_off c.args.line.now c.bytes-before-end.result c.bytes-before-end.ensures.value c.if-end-eq0.false;
-      none = λ none. absurd (omega (arith, c.bytes-before-end.ensures.bound, simp length-take at none));
+      cut = λ _. word_off c.args.line.now c.bytes_before-end.result c.bytes_before-end.ensures.value c.if-end-eq0.false;
+      none = λ none. absurd (omega (arith, c.bytes_before-end.ensures.bound, simp length-take at none));
       less = rw (take_rest, length-drop) (omega arith);
     }

@@ -6,9 +6,9 @@ use Rattle.text.proofs.lines.lines_of.Goals as goal
 
 pub loop-rest-preserved : goal.loop-rest-preserved
 loop-rest-preserved c =
-    let more = piece_more (vec_items c.loop-rest.found) c.first-line.result.0 (lines c.first-line.result.1.now) in
-    let items = c.in-ok-push.ensures.items in
-    let cut = c.first-line.ensures.cut in
+    let more = piece_more (vec_items c.loop-rest.found) c.first_line.result.0 (lines c.first_line.result.1.now) in
+    let items = c.in_ok-push.ensures.items in
+    let cut = c.first_line.ensures.cut in
     let before = c.loop-rest.invariant in
     cc
 

@@ -4,11 +4,11 @@ use Rattle.text.specs.Lines.{words, pieces}
 use Rattle.text.proofs.Cutting.{piece_more, no_words}
 use Rattle.text.proofs.lines.words_of.Goals as goal
 
-pub loop-rest-preserved-in-ok-push : goal.loop-rest-preserved-in-ok-push
-loop-rest-preserved-in-ok-push c =
-    let more = piece_more (vec_items c.loop-rest.found) c.first-word.result.0 (words c.first-word.result.1.now) in
-    let items = c.in-ok-push.ensures.items in
-    let cut = c.first-word.ensures.cut (omega (arith, false-eqb _ 0 c.if-not-is-empty.ensures)) in
+pub loop-rest-preserved-in_ok-push : goal.loop-rest-preserved-in_ok-push
+loop-rest-preserved-in_ok-push c =
+    let more = piece_more (vec_items c.loop-rest.found) c.first_word.result.0 (words c.first_word.result.1.now) in
+    let items = c.in_ok-push.ensures.items in
+    let cut = c.first_word.ensures.cut (omega (arith, false-eqb _ 0 c.if-not-is_empty.ensures)) in
     let before = c.loop-rest.invariant in
     cc
 

@@ -3,15 +3,15 @@ use Rattle.std.proofs.Common.{vec_items, sym, ◌∙◌, arith}
 use Rattle.text.proofs.Squares.{way_more, way_none, ways_over}
 use Rattle.text.proofs.ways.read_ways.Goals as goal
 
-pub returns-in-default : goal.returns-in-default
-returns-in-default c =
-    sym (way_none (vec_items c.loop-letter.ways) c.args.letters.now c.loop-letter.letter-index (omega arith) (sym c.read-way.ensures ∙ c.in-default.is))
+pub returns-in_default : goal.returns-in_default
+returns-in_default c =
+    sym (way_none (vec_items c.loop-letter.ways) c.args.letters.now c.loop-letter.letter-index (omega arith) (sym c.read_way.ensures ∙ c.in_default.is))
     ∙ c.loop-letter.invariant
 
 pub loop-letter-preserved : goal.loop-letter-preserved
 loop-letter-preserved c =
     way_more (vec_items c.loop-letter.ways) (vec_items c.push.new.self) c.in-Some.way c.args.letters.now c.loop-letter.letter-index (omega arith)
-    (sym c.read-way.ensures ∙ c.in-Some.is) c.in-ok-push.ensures.items
+    (sym c.read_way.ensures ∙ c.in-Some.is) c.in_ok-push.ensures.items
     ∙ c.loop-letter.invariant
 
 pub returns : goal.returns

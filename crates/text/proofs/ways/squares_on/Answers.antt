@@ -6,7 +6,7 @@ use Rattle.text.proofs.ways.squares_on.Goals as goal
 pub loop-way-preserved : goal.loop-way-preserved
 loop-way-preserved c =
     square_more c.args.field.now.across c.args.field.now.down c.loop-way.at (vec_items c.loop-way.squares) (vec_items c.push.new.self)
-    c.args.ways.now c.loop-way.way-index _ c.step-from-at.result (omega arith) c.step-from-at.ensures c.in-ok-push.ensures.items
+    c.args.ways.now c.loop-way.way-index _ c.step_from-at.result (omega arith) c.step_from-at.ensures c.in_ok-push.ensures.items
     ∙ c.loop-way.invariant
 
 pub returns : goal.returns

@@ -6,24 +6,24 @@ use Rattle.ways.specs.Around.{around}
 use Rattle.way.proofs.Size.{sizes}
 use Rattle.way.proofs.around.around.Goals as goal
 
-pub overflow-cast-across : goal.overflow-cast-across
-overflow-cast-across c = omega (arith, sizes c.args.field.now)
+pub overflow_cast-across : goal.overflow_cast-across
+overflow_cast-across c = omega (arith, sizes c.args.field.now)
 
-pub overflow-cast-squares : goal.overflow-cast-squares
-overflow-cast-squares c = omega (arith, sizes c.args.field.now)
+pub overflow_cast-squares : goal.overflow_cast-squares
+overflow_cast-squares c = omega (arith, sizes c.args.field.now)
 
-pub overflow-add-column : goal.overflow-add-column
-overflow-add-column c =
+pub overflow_add-column : goal.overflow_add-column
+overflow_add-column c =
     let s = sizes c.args.field.now in omega (arith, s, mod_below c.args.square c.args.field.now.across s.wide)
 
-pub overflow-add-right : goal.overflow-add-right
-overflow-add-right c = omega (arith, sizes c.args.field.now)
+pub overflow_add-right : goal.overflow_add-right
+overflow_add-right c = omega (arith, sizes c.args.field.now)
 
-pub overflow-add-square : goal.overflow-add-square
-overflow-add-square c = omega (arith, sizes c.args.field.now)
+pub overflow_add-square : goal.overflow_add-square
+overflow_add-square c = omega (arith, sizes c.args.field.now)
 
-pub overflow-add-below : goal.overflow-add-below
-overflow-add-below c = omega (arith, sizes c.args.field.now)
+pub overflow_add-below : goal.overflow_add-below
+overflow_add-below c = omega (arith, sizes c.args.field.now)
 
 pub returns-then-square-across-2 : goal.returns-then-square-across-2
 unfolding around

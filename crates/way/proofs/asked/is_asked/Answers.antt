@@ -7,12 +7,12 @@ use Rattle.ways.specs.Asked.{asked_ok}
 use Rattle.way.proofs.Size.{sizes}
 use Rattle.way.proofs.asked.is_asked.Goals as goal
 
-pub returns-then-are-inside : goal.returns-then-are-inside
+pub returns-then-are_inside : goal.returns-then-are_inside
 unfolding asked_ok field_in
-returns-then-are-inside c =
+returns-then-are_inside c =
     let same = ap (λ (n : ℕ). every (λ g. ltb g n) c.args.row.now) (sizes c.args.field.now).walls_long in grind (arith, nat_tests)
 
-pub returns-else-are-inside : goal.returns-else-are-inside
+pub returns-else-are_inside : goal.returns-else-are_inside
 unfolding asked_ok field_in
-returns-else-are-inside c =
+returns-else-are_inside c =
     let same = ap (λ (n : ℕ). every (λ g. ltb g n) c.args.row.now) (sizes c.args.field.now).walls_long in grind (arith, nat_tests)

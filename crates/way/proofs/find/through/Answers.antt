@@ -39,9 +39,9 @@ inside row home size h each k l =
     (λ s. subst (λ (x : ℕ). x < size) (sym (get_or_push row home 0 k (omega (arith, length_push row home)))) h)
     (cases_lt k (length row))
 
-pub slice-bounds-lead-end : goal.slice-bounds-lead-end
-slice-bounds-lead-end c =
-    long_enough c.args.row.now c.copy-from-slice.new.self c.args.home (length c.args.row.now) c.copy-from-slice.ensures.after refl c.requires.few
+pub slice_bounds-lead-end : goal.slice_bounds-lead-end
+slice_bounds-lead-end c =
+    long_enough c.args.row.now c.copy_from_slice.new.self c.args.home (length c.args.row.now) c.copy_from_slice.ensures.after refl c.requires.few
 
 pub lead-requires : goal.lead-requires
 unfolding goals
@@ -49,7 +49,7 @@ lead-requires c =
     let row = c.args.row.now in
     let home = c.args.home in
     let size = c.args.field.now.across * c.args.field.now.down in
-    let q = front row c.copy-from-slice.new.self home (length row) c.copy-from-slice.ensures.after refl c.requires.few in
+    let q = front row c.copy_from_slice.new.self home (length row) c.copy_from_slice.ensures.after refl c.requires.few in
     record {
       long = c.requires.long;
       start = c.requires.start;
@@ -61,5 +61,5 @@ pub returns : goal.returns
 unfolding goals
 returns c =
     let row = c.args.row.now in
-    let q = front row c.copy-from-slice.new.self c.args.home (length row) c.copy-from-slice.ensures.after refl c.requires.few in
+    let q = front row c.copy_from_slice.new.self c.args.home (length row) c.copy_from_slice.ensures.after refl c.requires.few in
     subst (λ (x : List ℕ). Leads c.args.field.now c.args.from x c.lead.new.made c.lead.result) q c.lead.ensures

@@ -30,23 +30,23 @@ copied k self made before e =
 refused : (m n : ℕ) (before : List ℕ) → n ≡ m → 0 < m → (m ≡ n) × (0 < n) × (before ≡ before)
 refused m n before e l = (sym e, omega arith, refl)
 
-pub returns-then-not-is-field : goal.returns-then-not-is-field
-returns-then-not-is-field c =
-    refused 1 _ c.args.route.now (refused_field _ _ _ _ _ _ _ _ (sym c.if-not-is-field.ensures)) (omega arith)
+pub returns-then-not-is_field : goal.returns-then-not-is_field
+returns-then-not-is_field c =
+    refused 1 _ c.args.route.now (refused_field _ _ _ _ _ _ _ _ (sym c.if-not-is_field.ensures)) (omega arith)
 
 pub returns-then-shuttle-bays : goal.returns-then-shuttle-bays
 returns-then-shuttle-bays c =
-    refused 3 _ c.args.route.now (refused_shuttle _ _ _ _ _ _ _ _ (sym c.if-not-is-field.ensures) (omega (arith, c.if-shuttle-bays.true))) (omega arith)
+    refused 3 _ c.args.route.now (refused_shuttle _ _ _ _ _ _ _ _ (sym c.if-not-is_field.ensures) (omega (arith, c.if-shuttle-bays.true))) (omega arith)
 
-pub returns-then-not-is-asked : goal.returns-then-not-is-asked
-returns-then-not-is-asked c =
-    refused 5 _ c.args.route.now (refused_asked _ _ _ _ _ _ _ _ (sym c.if-not-is-field.ensures) (omega (arith, c.if-shuttle-bays.false)) (sym c.if-not-is-asked.ensures)) (omega arith)
+pub returns-then-not-is_asked : goal.returns-then-not-is_asked
+returns-then-not-is_asked c =
+    refused 5 _ c.args.route.now (refused_asked _ _ _ _ _ _ _ _ (sym c.if-not-is_field.ensures) (omega (arith, c.if-shuttle-bays.false)) (sym c.if-not-is_asked.ensures)) (omega arith)
 
 pub through-requires : goal.through-requires
 unfolding field_in
 through-requires c =
-    let a = asked_tells _ _ _ _ _ (sym c.if-not-is-asked.ensures) in
-    let f = lent c.args.across c.args.down c.args.walls c.args.bays (sym c.if-not-is-field.ensures) in
+    let a = asked_tells _ _ _ _ _ (sym c.if-not-is_asked.ensures) in
+    let f = lent c.args.across c.args.down c.args.walls c.args.bays (sym c.if-not-is_field.ensures) in
     record {
       long = refl;
       few = a.few;
@@ -55,16 +55,16 @@ through-requires c =
       inside = a.inside;
     }
 
-pub slice-bounds-copy-from-slice-end : goal.slice-bounds-copy-from-slice-end
+pub slice_bounds-copy_from_slice-end : goal.slice_bounds-copy_from_slice-end
 unfolding field_in
-slice-bounds-copy-from-slice-end c =
-    let a = asked_tells _ _ _ _ _ (sym c.if-not-is-asked.ensures) in
+slice_bounds-copy_from_slice-end c =
+    let a = asked_tells _ _ _ _ _ (sym c.if-not-is_asked.ensures) in
     let b = c.in-Some.ensures c.args.shuttle (ends_push (get_or c.args.bays.now c.args.shuttle 0) c.args.row.now) in
     omega (arith, a.places, b.0)
 
-pub slice-bounds-copy-from-slice-end-in-Some : goal.slice-bounds-copy-from-slice-end-in-Some
+pub slice_bounds-copy_from_slice-end-in-Some : goal.slice_bounds-copy_from_slice-end-in-Some
 unfolding field_in
-slice-bounds-copy-from-slice-end-in-Some c =
+slice_bounds-copy_from_slice-end-in-Some c =
     let b = c.in-Some.ensures c.args.shuttle (ends_push (get_or c.args.bays.now c.args.shuttle 0) c.args.row.now) in
     omega (arith, b.0, c.through.auto.made)
 
@@ -73,14 +73,14 @@ unfolding field_in
 returns-in-Some c =
     let b = c.in-Some.ensures c.args.shuttle (ends_push (get_or c.args.bays.now c.args.shuttle 0) c.args.row.now) in
     found _ c.args.shuttle c.args.from c.in-Some.squares _ c.args.row.now c.through.new.made c.args.route.now _
-    (refused_not _ _ _ _ _ _ _ _ (sym c.if-not-is-field.ensures) (omega (arith, c.if-shuttle-bays.false)) (sym c.if-not-is-asked.ensures))
+    (refused_not _ _ _ _ _ _ _ _ (sym c.if-not-is_field.ensures) (omega (arith, c.if-shuttle-bays.false)) (sym c.if-not-is_asked.ensures))
     c.through.auto.made b
-    (copied c.in-Some.squares c.copy-from-slice.new.self c.through.new.made c.args.route.now c.copy-from-slice.ensures.after)
+    (copied c.in-Some.squares c.copy_from_slice.new.self c.through.new.made c.args.route.now c.copy_from_slice.ensures.after)
 
 pub returns-in-None : goal.returns-in-None
 unfolding field_in
 returns-in-None c = (
-  refused_not _ _ _ _ _ _ _ _ (sym c.if-not-is-field.ensures) (omega (arith, c.if-shuttle-bays.false)) (sym c.if-not-is-asked.ensures),
+  refused_not _ _ _ _ _ _ _ _ (sym c.if-not-is_field.ensures) (omega (arith, c.if-shuttle-bays.false)) (sym c.if-not-is_asked.ensures),
   nowhere_from_far _ c.args.shuttle c.args.from c.args.row.now
       (c.in-None.ensures c.args.shuttle (ends_push (get_or c.args.bays.now c.args.shuttle 0) c.args.row.now)),
   refl,

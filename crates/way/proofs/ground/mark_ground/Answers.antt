@@ -7,15 +7,15 @@ use Rattle.ways.proofs.Expand.{distance_in}
 use Rattle.ways.proofs.Marks.{free_none, free_yes, free_not, open_none, open_more, open_all}
 use Rattle.way.proofs.Size.{sizes, bay_below}
 use Rattle.way.proofs.ground.mark_ground.Goals as goal
-use Rattle.way.proofs.ground.mark_ground.Goals.{then-is-free, else-is-free}
+use Rattle.way.proofs.ground.mark_ground.Goals.{then-is_free, else-is_free}
 
 filled : (n : ℕ) (table : List ℕ) → table ≡ replicate n 65534 → (x : ℕ) → distance_in table x ≡ 65534
 filled n table e x =
     ap (λ (t : List ℕ). distance_in t x) e
     ∙ ⊎_elim (λ l. get_or-replicate n x 65534 65534 l) (λ l. get_or_past (replicate n 65534) x 65534 (omega (arith, length-replicate {A = ℕ} n 65534))) (cases_lt x n)
 
-pub overflow-cast-squares : goal.overflow-cast-squares
-overflow-cast-squares c = omega (arith, (sizes c.args.field.now).walls_most)
+pub overflow_cast-squares : goal.overflow_cast-squares
+overflow_cast-squares c = omega (arith, (sizes c.args.field.now).walls_most)
 
 pub loop-square-init : goal.loop-square-init
 loop-square-init c = free_none _ _ (filled _ _ (c.fill.ensures.after (λ y h. h)))
@@ -26,12 +26,12 @@ bounds-table-square c =
 
 pub loop-square-preserved : goal.loop-square-preserved
 loop-square-preserved c =
-    elim c.if-is-free.branch [
-      | then-is-free w ↦
+    elim c.if-is_free.branch [
+      | then-is_free w ↦
           simp w.table-is
           (free_yes _ _ _ (omega (arith, c.loop-square-test.true, (sizes c.args.field.now).walls_most, c.loop-square.auto.table, c.fill.ensures.len, c.requires))
-          (sym w.if-is-free.ensures) c.loop-square.invariant)
-      | else-is-free w ↦ simp w.table-is (free_not _ _ _ (sym w.if-is-free.ensures) c.loop-square.invariant)
+          (sym w.if-is_free.ensures) c.loop-square.invariant)
+      | else-is_free w ↦ simp w.table-is (free_not _ _ _ (sym w.if-is_free.ensures) c.loop-square.invariant)
     ]
 
 pub loop-bay-init : goal.loop-bay-init

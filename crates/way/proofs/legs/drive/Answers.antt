@@ -17,7 +17,7 @@ done l ds len n place before made room near m w =
     let P = capped (distance_in ds) l.start in
     let B = distances_bound (field_of l.field) l.goal l.last l.start (distance_in ds) m.0 in
     let long = falls_length (field_of l.field) l.goal l.last P B.at_goal w.walk l.start w.falls in
-    (P, B, (omega (arith, w.place-is, long, m.1), w))
+    (P, B, (omega (arith, w.place_is, long, m.1), w))
 
 pub returns : goal.returns
 returns c =

@@ -19,7 +19,7 @@ Expands l = Expanding (field_of l.field) l.goal l.last l.start
 -- what stands at the front of the queue
 begun : (l : Leg) (ds qs : List ℕ) (head tail : ℕ) → Waiting l ds qs head tail → Expands l (get_or qs head 0) ds qs head tail 0
 begun l ds qs head tail w =
-    expand_start (field_of l.field) l.goal l.last l.start ds qs head tail w.table_long w.queue-long w.left w.room w.spreading w.far
+    expand_start (field_of l.field) l.goal l.last l.start ds qs head tail w.table_long w.queue_long w.left w.room w.spreading w.far
 
 -- it is a square of the field, and its distance is small
 inside : (l : Leg) (square head tail j : ℕ) (ds qs : List ℕ) → Expands l square ds qs head tail j → square < l.field.across * l.field.down
@@ -79,8 +79,8 @@ bounds-distances-square c =
     let e = begun c.args.leg.now _ _ _ _ c.requires in
     omega (arith, inside c.args.leg.now _ _ _ _ _ _ e, (sizes c.args.leg.now.field).squares_most, c.requires.table_long)
 
-pub overflow-add-next : goal.overflow-add-next
-overflow-add-next c =
+pub overflow_add-next : goal.overflow_add-next
+overflow_add-next c =
     let e = begun c.args.leg.now _ _ _ _ c.requires in
     omega (arith, small c.args.leg.now _ _ _ _ _ _ e, read c.args.leg.now _ _ _ _ _ _ e)
 
@@ -100,15 +100,15 @@ bounds-distances-d c = turned c.args.leg.now _ _ _ _ _ _ _ c.loop-d.invariant.0 
 pub bounds-distances-d-then-distances-d : goal.bounds-distances-d-then-distances-d
 bounds-distances-d-then-distances-d c = turned c.args.leg.now _ _ _ _ _ _ _ c.loop-d.invariant.0 c.loop-d-test.true c.around-d-items.ensures
 
-pub offset-bounds-queue-tail : goal.offset-bounds-queue-tail
-offset-bounds-queue-tail c = omega (arith, c.loop-d.invariant.0.room)
+pub offset_bounds-queue-tail : goal.offset_bounds-queue-tail
+offset_bounds-queue-tail c = omega (arith, c.loop-d.invariant.0.room)
 
 pub bounds-queue-tail : goal.bounds-queue-tail
 bounds-queue-tail c =
     omega (arith, (given-it c.args.leg.now _ _ _ _ _ _ _ _ c.loop-d.invariant c.loop-d-test.true c.around-d-items.ensures c.if-distances-d.true).0, c.loop-d.invariant.0.queue_long)
 
-pub overflow-add-tail : goal.overflow-add-tail
-overflow-add-tail c = omega (arith, c.loop-d.invariant.0.room)
+pub overflow_add-tail : goal.overflow_add-tail
+overflow_add-tail c = omega (arith, c.loop-d.invariant.0.room)
 
 pub loop-d-preserved : goal.loop-d-preserved
 loop-d-preserved c =

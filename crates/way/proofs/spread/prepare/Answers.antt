@@ -50,11 +50,11 @@ pub bounds-ground-goal : goal.bounds-ground-goal
 bounds-ground-goal c = omega (arith, goal_below c.args.leg.now, c.requires.long.0)
 
 pub bounds-distances-leg : goal.bounds-distances-leg
-bounds-distances-leg c = omega (arith, start_below c.args.leg.now, c.requires.long.1, c.copy-from-slice.ensures.len)
+bounds-distances-leg c = omega (arith, start_below c.args.leg.now, c.requires.long.1, c.copy_from_slice.ensures.len)
 
 pub bounds-distances-goal : goal.bounds-distances-goal
 bounds-distances-goal c =
-    omega (arith, goal_below c.args.leg.now, c.requires.long.1, c.copy-from-slice.ensures.len, length-set c.copy-from-slice.new.self c.args.leg.now.start 65535)
+    omega (arith, goal_below c.args.leg.now, c.requires.long.1, c.copy_from_slice.ensures.len, length-set c.copy_from_slice.new.self c.args.leg.now.start 65535)
 
 pub returns : goal.returns
 returns c =
@@ -63,13 +63,13 @@ returns c =
     let same : enter (field_of l.field) l.goal l.last l.goal ≡ c.if-ground-goal.open =
     elim c.if-ground-goal.branch [
       | then-ground-goal w ↦
-          by-ground l gr c.requires.long.0 c.requires.over w.if-ground-goal.true ∙ (sym (eq-eqb _ _ w.if-ground-goal.true) ∙ sym w.open-is)
+          by-ground l gr c.requires.long.0 c.requires.over w.if-ground-goal.true ∙ (sym (eq-eqb _ _ w.if-ground-goal.true) ∙ sym w.open_is)
       | else-ground-goal+then-leg w ↦
-          by_end l gr c.requires.long.0 c.requires.over w.if-ground-goal.false ∙ (and_is l.last _ w.if-leg.true ∙ (sym w.is-free.ensures ∙ sym w.open-is))
+          by_end l gr c.requires.long.0 c.requires.over w.if-ground-goal.false ∙ (and_is l.last _ w.if-leg.true ∙ (sym w.is_free.ensures ∙ sym w.open_is))
       | else-ground-goal+else-leg w ↦
-          by_end l gr c.requires.long.0 c.requires.over w.if-ground-goal.false ∙ (and_left l.last _ w.if-leg.false ∙ (sym w.if-leg.false ∙ sym w.open-is))
+          by_end l gr c.requires.long.0 c.requires.over w.if-ground-goal.false ∙ (and_left l.last _ w.if-leg.false ∙ (sym w.if-leg.false ∙ sym w.open_is))
     ] in
     record {
-      «open» = λ t. written l gr c.copy-from-slice.new.self c.requires.long.0 c.requires.over c.copy-from-slice.ensures.after (same ∙ t);
+      «open» = λ t. written l gr c.copy_from_slice.new.self c.requires.long.0 c.requires.over c.copy_from_slice.ensures.after (same ∙ t);
       shut = λ t e. both_ways _ (same ∙ t) e;
     }

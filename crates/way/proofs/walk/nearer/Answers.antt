@@ -67,8 +67,8 @@ pub bounds-distances-square : goal.bounds-distances-square
 bounds-distances-square c =
     omega (arith, inside c.args.leg.now _ _ c.requires, (sizes c.args.leg.now.field).squares_most, c.requires.long)
 
-pub overflow-sub-wanted : goal.overflow-sub-wanted
-overflow-sub-wanted c = positive c.args.leg.now _ _ c.requires
+pub overflow_sub-wanted : goal.overflow_sub-wanted
+overflow_sub-wanted c = positive c.args.leg.now _ _ c.requires
 
 pub around-d-items-requires : goal.around-d-items-requires
 around-d-items-requires c = inside c.args.leg.now _ _ c.requires

@@ -13,13 +13,13 @@ nearer-square-requires c =
 pub bounds-made-place : goal.bounds-made-place
 bounds-made-place c =
     let w = c.loop-square.invariant.0 in
-    omega (arith, w.place-is, w.fallen, c.nearer-square.ensures.0.one, c.requires.room, c.requires.long.1, c.loop-square.auto.made)
+    omega (arith, w.place_is, w.fallen, c.nearer-square.ensures.0.one, c.requires.room, c.requires.long.1, c.loop-square.auto.made)
 
 pub loop-square-preserved : goal.loop-square-preserved
 loop-square-preserved c =
     let w = c.loop-square.invariant.0 in (
       walk_more _ _ _ _ _ _ _ _ _ _ _ w
-          (omega (arith, w.place-is, w.fallen, c.nearer-square.ensures.0.one, c.requires.room, c.requires.long.1, c.loop-square.auto.made))
+          (omega (arith, w.place_is, w.fallen, c.nearer-square.ensures.0.one, c.requires.room, c.requires.long.1, c.loop-square.auto.made))
           c.nearer-square.ensures.0,
       omega (arith, c.nearer-square.ensures.1, c.loop-square.invariant.1),
       omega (arith, c.nearer-square.ensures.1, c.loop-square.invariant.2),

@@ -6,11 +6,11 @@ use Rattle.rules.specs.Memory.{field_in}
 use Rattle.field.proofs.Facts.{facts}
 use Rattle.field.proofs.field.Field.beside.Goals as goal
 
-pub overflow-add-c-else-in-row : goal.overflow-add-c-else-in-row
-overflow-add-c-else-in-row c = let k = (facts c.args.self.now).across_most in omega arith
+pub overflow_add-c-else-in_row : goal.overflow_add-c-else-in_row
+overflow_add-c-else-in_row c = let k = (facts c.args.self.now).across_most in omega arith
 
-pub overflow-add-result : goal.overflow-add-result
-overflow-add-result c = let k = (facts c.args.self.now).across_most in omega arith
+pub overflow_add-result : goal.overflow_add-result
+overflow_add-result c = let k = (facts c.args.self.now).across_most in omega arith
 
 pub returns-then-c-self : goal.returns-then-c-self
 unfolding beside field_in

@@ -2,5 +2,5 @@
 use Rattle.field.proofs.Facts.{facts}
 use Rattle.field.proofs.field.Field.column.Goals as goal
 
-pub nonzero-rem-result : goal.nonzero-rem-result
-nonzero-rem-result c = (facts c.args.self.now).across_least
+pub nonzero_rem-result : goal.nonzero_rem-result
+nonzero_rem-result c = (facts c.args.self.now).across_least

@@ -5,4 +5,4 @@ use Rattle.field.proofs.field.Field.is_bay.Goals as goal
 
 pub returns : goal.returns
 unfolding is_bay is_bay_to field_in
-returns c = c.is-among.ensures
+returns c = c.is_among.ensures

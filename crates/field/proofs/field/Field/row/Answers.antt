@@ -2,5 +2,5 @@
 use Rattle.field.proofs.Facts.{facts}
 use Rattle.field.proofs.field.Field.row.Goals as goal
 
-pub nonzero-div-result : goal.nonzero-div-result
-nonzero-div-result c = (facts c.args.self.now).across_least
+pub nonzero_div-result : goal.nonzero_div-result
+nonzero_div-result c = (facts c.args.self.now).across_least

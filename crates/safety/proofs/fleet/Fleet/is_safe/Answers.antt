@@ -8,8 +8,8 @@ use Rattle.safety.proofs.fleet.Fleet.is_safe.Goals as goal
 pub stand-requires : goal.stand-requires
 stand-requires c = record { long = refl; clear = all_clear 4096 }
 
-pub all-go-requires : goal.all-go-requires
-all-go-requires c =
+pub all_go-requires : goal.all_go-requires
+all_go-requires c =
     let f = c.args.self.now in
     let is = blocked_by f.shuttles f.memory.now f.count c.stand.new.table c.blockers-sets.result c.stand.ensures c.blockers-sets.ensures.met in
     record {
@@ -22,4 +22,4 @@ pub returns : goal.returns
 returns c =
     let f = c.args.self.now in
     let is = blocked_by f.shuttles f.memory.now f.count c.stand.new.table c.blockers-sets.result c.stand.ensures c.blockers-sets.ensures.met in
-    safe_by_sets _ _ c.blockers-sets.result c.all-go.result is c.all-go.ensures
+    safe_by_sets _ _ c.blockers-sets.result c.all_go.result is c.all_go.ensures

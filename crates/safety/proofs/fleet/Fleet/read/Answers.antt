@@ -8,11 +8,11 @@ use Rattle.safety.specs.Shuttles.{nobody, shuttle_of, all_fit}
 use Rattle.safety.proofs.Reading.{read_is, nobody_is, accepted_memory, left_most, read_fits}
 use Rattle.safety.proofs.fleet.Fleet.read.Goals as goal
 
-pub overflow-mul-i : goal.overflow-mul-i
-overflow-mul-i c = let few = (facts c.args.field.now).few in omega arith
+pub overflow_mul-i : goal.overflow_mul-i
+overflow_mul-i c = let few = (facts c.args.field.now).few in omega arith
 
-pub shuttle-at-requires : goal.shuttle-at-requires
-shuttle-at-requires c =
+pub shuttle_at-requires : goal.shuttle_at-requires
+shuttle_at-requires c =
     let long = (accepted_memory _ _ _ c.requires).long in
     let few = (facts c.args.field.now).few in
     record { there = omega arith; near = omega arith; room = left_most _ _ _ c.loop-i.i c.requires c.loop-i-test.true }
@@ -25,15 +25,15 @@ loop-i-preserved c =
     let inv = c.loop-i.invariant in
     let few = (facts c.args.field.now).few in
     let there : c.loop-i.i < length c.loop-i.shuttles = omega (arith, inv.0) in (
-      length-set c.loop-i.shuttles c.loop-i.i c.shuttle-at.result ∙ inv.0,
+      length-set c.loop-i.shuttles c.loop-i.i c.shuttle_at.result ∙ inv.0,
       below_more _ _ (λ k l. let ne : k ≢ c.loop-i.i = omega arith in rw get_or-set_other (inv.1 k l))
-          (get_or-set_same c.loop-i.shuttles c.loop-i.i c.shuttle-at.result nobody there ∙ c.shuttle-at.ensures),
+          (get_or-set_same c.loop-i.shuttles c.loop-i.i c.shuttle_at.result nobody there ∙ c.shuttle_at.ensures),
       λ k l. let ne : k ≢ c.loop-i.i = omega arith in rw get_or-set_other (inv.2 k (omega arith)),
     )
 
-pub invariant-of-result : goal.invariant-of-result
+pub invariant_of-result : goal.invariant_of-result
 unfolding all_fit
-invariant-of-result c =
+invariant_of-result c =
     let k = facts c.args.field.now in
     let most = k.squares_most in
     let few = k.few in
