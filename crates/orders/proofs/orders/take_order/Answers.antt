@@ -9,26 +9,26 @@ use Rattle.safety.proofs.Reading.{accepted_memory}
 use Rattle.orders.proofs.Taken.{takes_is, order_is}
 use Rattle.orders.proofs.orders.take_order.Goals as goal
 
-pub overflow-mul-place : goal.overflow-mul-place
-overflow-mul-place c = let few = (facts c.args.field.now).few in let l = c.requires.there in omega arith
+pub overflow_mul-place : goal.overflow_mul-place
+overflow_mul-place c = let few = (facts c.args.field.now).few in let l = c.requires.there in omega arith
 
-pub is-idle-requires : goal.is-idle-requires
-is-idle-requires c = let long = (accepted_memory _ _ _ c.requires.accepted).long in let l = c.requires.there in omega arith
+pub is_idle-requires : goal.is_idle-requires
+is_idle-requires c = let long = (accepted_memory _ _ _ c.requires.accepted).long in let l = c.requires.there in omega arith
 
-pub returns-then-not-is-idle : goal.returns-then-not-is-idle
+pub returns-then-not-is_idle : goal.returns-then-not-is_idle
 unfolding field_in
-returns-then-not-is-idle c =
+returns-then-not-is_idle c =
     let is = takes_is (field_of c.args.field.now) _ c.args.memory.now c.args.shuttle c.args.route.now c.requires.accepted c.requires.there c.requires.short in
-    record { taken = sym (is ∙ and_left _ _ (sym c.is-idle.ensures ∙ c.if-not-is-idle.true)); left = refl }
+    record { taken = sym (is ∙ and_left _ _ (sym c.is_idle.ensures ∙ c.if-not-is_idle.true)); left = refl }
 
-pub offset-bounds-memory-place : goal.offset-bounds-memory-place
-offset-bounds-memory-place c = let few = (facts c.args.field.now).few in let l = c.requires.there in omega arith
+pub offset_bounds-memory-place : goal.offset_bounds-memory-place
+offset_bounds-memory-place c = let few = (facts c.args.field.now).few in let l = c.requires.there in omega arith
 
 pub bounds-memory-place : goal.bounds-memory-place
 bounds-memory-place c = let long = (accepted_memory _ _ _ c.requires.accepted).long in let l = c.requires.there in omega arith
 
-pub write-order-requires : goal.write-order-requires
-write-order-requires c =
+pub write_order-requires : goal.write_order-requires
+write_order-requires c =
     let long = (accepted_memory _ _ _ c.requires.accepted).long in
     let l = c.requires.there in record { there = omega arith; short = c.requires.short }
 
@@ -39,13 +39,13 @@ returns-in-Right c =
     let is = takes_is f _ c.args.memory.now c.args.shuttle c.args.route.now c.requires.accepted c.requires.there c.requires.short in
     let right = sym c.judge.ensures.right ∙ right_is c.judge.result c.in-Right.is in
     record {
-      taken = sym (is ∙ and_from _ _ (sym c.is-idle.ensures ∙ c.if-not-is-idle.false) right);
-      left = c.write-order.ensures ∙ order_is f _ c.args.memory.now c.args.shuttle c.args.route.now c.requires.accepted c.requires.there c.requires.short;
+      taken = sym (is ∙ and_from _ _ (sym c.is_idle.ensures ∙ c.if-not-is_idle.false) right);
+      left = c.write_order.ensures ∙ order_is f _ c.args.memory.now c.args.shuttle c.args.route.now c.requires.accepted c.requires.there c.requires.short;
     }
 
-pub returns-in-default : goal.returns-in-default
+pub returns-in_default : goal.returns-in_default
 unfolding field_in
-returns-in-default c =
+returns-in_default c =
     let is = takes_is (field_of c.args.field.now) _ c.args.memory.now c.args.shuttle c.args.route.now c.requires.accepted c.requires.there c.requires.short in
-    let wrong = sym c.judge.ensures.right ∙ not_right c.judge.result c.in-default.not-Right in
+    let wrong = sym c.judge.ensures.right ∙ not_right c.judge.result c.in_default.not-Right in
     record { taken = sym (is ∙ and_right _ _ wrong); left = refl }

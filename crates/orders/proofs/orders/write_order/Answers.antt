@@ -6,4 +6,4 @@ use Rattle.orders.proofs.orders.write_order.Goals as goal
 pub returns : goal.returns
 returns c =
     let from = c.args.place + 4 in
-    let rest = Post-is from (from + length c.args.route.now) c.write-numbers.new.memory (omega arith) in cc
+    let rest = Post-is from (from + length c.args.route.now) c.write_numbers.new.memory (omega arith) in cc

@@ -55,13 +55,13 @@ passed_over l square head tail j next ds qs items e lj is ne =
     let q : get_or items j 0 ≡ get_or (around l.field.across (l.field.across * l.field.down) square) j 0 = ap (λ (x : List ℕ). get_or x j 0) is in
     (expand_pass _ _ _ _ _ _ _ _ _ _ e.0 (λ z. ne (get_or_default ds (get_or items j 0) 0 65534 long ∙ (ap (distance_in ds) q ∙ z))), e.1)
 
-given-it :
+given_it :
     (l : Leg) (square head tail j next : ℕ) (ds qs items : List ℕ) → Expands l square ds qs head tail j × (next ≡ suc (distance_in ds square)) → j < 4
     → items ≡ around l.field.across (l.field.across * l.field.down) square → get_or ds (get_or items j 0) 0 ≡ 65535
     → (tail < 4096)
     × (Expands l square (set ds (get_or items j 0) next) (set qs tail (get_or items j 0)) head (tail + 1) (j + 1) × (next ≡ suc (distance_in (set ds (get_or items j 0) next) square)))
 unfolding field_in
-given-it l square head tail j next ds qs items e lj is z =
+given_it l square head tail j next ds qs items e lj is z =
     let long = turned l square head tail j ds qs items e.0 lj is in
     let q : get_or (around l.field.across (l.field.across * l.field.down) square) j 0 ≡ get_or items j 0 = ap (λ (x : List ℕ). get_or x j 0) (sym is) in
     let far : distance_in ds (get_or items j 0) ≡ 65535 = get_or_default ds (get_or items j 0) 65534 0 long ∙ z in
@@ -105,7 +105,7 @@ offset_bounds-queue-tail c = omega (arith, c.loop-d.invariant.0.room)
 
 pub bounds-queue-tail : goal.bounds-queue-tail
 bounds-queue-tail c =
-    omega (arith, (given-it c.args.leg.now _ _ _ _ _ _ _ _ c.loop-d.invariant c.loop-d-test.true c.around-d-items.ensures c.if-distances-d.true).0, c.loop-d.invariant.0.queue_long)
+    omega (arith, (given_it c.args.leg.now _ _ _ _ _ _ _ _ c.loop-d.invariant c.loop-d-test.true c.around-d-items.ensures c.if-distances-d.true).0, c.loop-d.invariant.0.queue_long)
 
 pub overflow_add-tail : goal.overflow_add-tail
 overflow_add-tail c = omega (arith, c.loop-d.invariant.0.room)
@@ -115,7 +115,7 @@ loop-d-preserved c =
     elim c.if-distances-d.branch [
       | then-distances-d w ↦
           simp (w.distances-is, w.queue-is, w.tail-is)
-          (given-it c.args.leg.now _ _ _ _ _ _ _ _ c.loop-d.invariant c.loop-d-test.true c.around-d-items.ensures w.if-distances-d.true).1
+          (given_it c.args.leg.now _ _ _ _ _ _ _ _ c.loop-d.invariant c.loop-d-test.true c.around-d-items.ensures w.if-distances-d.true).1
       | else-distances-d w ↦
           simp (w.distances-is, w.queue-is, w.tail-is)
           (passed_over c.args.leg.now _ _ _ _ _ _ _ _ c.loop-d.invariant c.loop-d-test.true c.around-d-items.ensures w.if-distances-d.false)

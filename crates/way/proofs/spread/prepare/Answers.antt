@@ -29,10 +29,10 @@ read : (l : Leg) (ground : List ℕ) → length ground ≡ 4096 → get_or groun
 read l ground long = get_or_default ground l.goal 0 65534 (omega (arith, goal_below l))
 
 -- whether the goal may be entered, by the ground, and else as the end
-by-ground :
+by_ground :
     (l : Leg) (ground : List ℕ) → length ground ≡ 4096 → OverGround l ground → get_or ground l.goal 0 ≡ 65535
     → enter (field_of l.field) l.goal l.last l.goal ≡ true
-by-ground l ground long G e =
+by_ground l ground long G e =
     let o = ground_open (field_of l.field) ground l.goal G (sym (read l ground long) ∙ e) in
     let q = goal_open (field_of l.field) l.goal l.last in grind arith
 
@@ -63,11 +63,11 @@ returns c =
     let same : enter (field_of l.field) l.goal l.last l.goal ≡ c.if-ground-goal.open =
     elim c.if-ground-goal.branch [
       | then-ground-goal w ↦
-          by-ground l gr c.requires.long.0 c.requires.over w.if-ground-goal.true ∙ (sym (eq-eqb _ _ w.if-ground-goal.true) ∙ sym w.open_is)
+          by_ground l gr c.requires.long.0 c.requires.over w.if-ground-goal.true ∙ (sym (eq-eqb _ _ w.if-ground-goal.true) ∙ sym w.open-is)
       | else-ground-goal+then-leg w ↦
-          by_end l gr c.requires.long.0 c.requires.over w.if-ground-goal.false ∙ (and_is l.last _ w.if-leg.true ∙ (sym w.is_free.ensures ∙ sym w.open_is))
+          by_end l gr c.requires.long.0 c.requires.over w.if-ground-goal.false ∙ (and_is l.last _ w.if-leg.true ∙ (sym w.is_free.ensures ∙ sym w.open-is))
       | else-ground-goal+else-leg w ↦
-          by_end l gr c.requires.long.0 c.requires.over w.if-ground-goal.false ∙ (and_left l.last _ w.if-leg.false ∙ (sym w.if-leg.false ∙ sym w.open_is))
+          by_end l gr c.requires.long.0 c.requires.over w.if-ground-goal.false ∙ (and_left l.last _ w.if-leg.false ∙ (sym w.if-leg.false ∙ sym w.open-is))
     ] in
     record {
       «open» = λ t. written l gr c.copy_from_slice.new.self c.requires.long.0 c.requires.over c.copy_from_slice.ensures.after (same ∙ t);

@@ -38,11 +38,11 @@ invariant_of-result c =
     let most = k.squares_most in
     let few = k.few in
     let long = (accepted_memory _ _ _ c.requires).long in
-    let near : length c.args.memory.now ≤ 4160 = omega arith in (
-      and_from _ _ (eq-eqb _ _ c.loop-i.invariant.0) (and_from _ _ (le-leb _ _ few) (and_from _ _ (le-leb _ _ near)
-          (every_to_from _ _ (λ i l. let here = c.loop-i.invariant.1 i (omega arith) in rw here (read_fits _ _ _ i most c.requires l))))),
-      tt,
-    )
+    let near : length c.args.memory.now ≤ 4160 = omega arith in
+    record {
+      fits = and_from _ _ (eq-eqb _ _ c.loop-i.invariant.0) (and_from _ _ (le-leb _ _ few) (and_from _ _ (le-leb _ _ near)
+          (every_to_from _ _ (λ i l. let here = c.loop-i.invariant.1 i (omega arith) in rw here (read_fits _ _ _ i most c.requires l)))));
+    }
 
 pub returns : goal.returns
 returns c =
