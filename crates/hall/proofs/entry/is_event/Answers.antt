@@ -10,7 +10,7 @@ pub returns-then-route-le256 : goal.returns-then-route-le256
 unfolding event_ok
 returns-then-route-le256 c =
     let small : (λ x. ltb x 4096) ≡ (λ x. leb x 4095) = fun_ext (λ x. grind (arith, nat_tests)) in
-    let e = c.are-squares.ensures ∙ ap (λ p. every p c.args.route.now) small in grind (arith, nat_tests, e)
+    let e = c.are_squares.ensures ∙ ap (λ p. every p c.args.route.now) small in grind (arith, nat_tests, e)
 
 pub returns-else-route-le256 : goal.returns-else-route-le256
 unfolding event_ok

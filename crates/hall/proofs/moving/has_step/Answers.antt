@@ -12,5 +12,5 @@ unfolding field_in
 returns c =
     let f = field_of c.args.field.now in
     let read = c.read-fleet.ensures in
-    c.is-granted.ensures f (sym read.count)
+    c.is_granted.ensures f (sym read.count)
     ∙ ap (λ g. grants f g c.args.shuttle) (ap (fleet_of c.read-fleet.result.shuttles) read.same ∙ fun_ext read.reads)

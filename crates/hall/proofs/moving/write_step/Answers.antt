@@ -4,5 +4,5 @@ use Rattle.hall.proofs.moving.write_step.Goals as goal
 
 pub returns : goal.returns
 returns c = λ i e.
-    step_written c.args.memory.now i c.args.place e c.requires.there c.requires.some c.requires.room c.write-numbers.new.memory c.shift.new.part
-    c.write-numbers.ensures c.shift.ensures
+    step_written c.args.memory.now i c.args.place e c.requires.there c.requires.some c.requires.room c.write_numbers.new.memory c.shift.new.part
+    c.write_numbers.ensures c.shift.ensures

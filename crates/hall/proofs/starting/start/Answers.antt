@@ -8,21 +8,21 @@ use Rattle.hall.specs.Answer.{number, refusal_of}
 use Rattle.hall.proofs.Started.{home_is, no_field, no_memory, both, start_refused, start_done, start_reached}
 use Rattle.hall.proofs.starting.start.Goals as goal
 
-pub returns-then-not-is-field : goal.returns-then-not-is-field
+pub returns-then-not-is_field : goal.returns-then-not-is_field
 unfolding number refusal_of
-returns-then-not-is-field c =
+returns-then-not-is_field c =
     let a = c.args in
-    let why = no_field a.across a.down a.walls.now a.bays.now a.memory.now (sym c.is-field.ensures ∙ c.if-not-is-field.true) in
+    let why = no_field a.across a.down a.walls.now a.bays.now a.memory.now (sym c.is_field.ensures ∙ c.if-not-is_field.true) in
     record { says = start_refused _ _ _ _ _ 0 why; refuses = sym why; begins = λ z. absurd (omega arith) }
 
-pub overflow-mul-bays : goal.overflow-mul-bays
-overflow-mul-bays c = let few = (accepted _ _ _ _ (sym c.is-field.ensures ∙ c.if-not-is-field.false)).few in omega arith
+pub overflow_mul-bays : goal.overflow_mul-bays
+overflow_mul-bays c = let few = (accepted _ _ _ _ (sym c.is_field.ensures ∙ c.if-not-is_field.false)).few in omega arith
 
 pub returns-then-memory-bays : goal.returns-then-memory-bays
 unfolding number refusal_of
 returns-then-memory-bays c =
     let a = c.args in
-    let why = no_memory a.across a.down a.walls.now a.bays.now a.memory.now (sym c.is-field.ensures ∙ c.if-not-is-field.false) c.if-memory-bays.true in
+    let why = no_memory a.across a.down a.walls.now a.bays.now a.memory.now (sym c.is_field.ensures ∙ c.if-not-is_field.false) c.if-memory-bays.true in
     record { says = start_refused _ _ _ _ _ 1 why; refuses = sym why; begins = λ z. absurd (omega arith) }
 
 pub loop-i-init : goal.loop-i-init
@@ -35,15 +35,15 @@ loop-i-preserved c =
     let f = field_in c.args.across c.args.down c.args.walls.now c.args.bays.now in
     let i = c.loop-i.i in
     let long = c.loop-i.invariant.1 in
-    let home = c.write-numbers.ensures ∙ home_is f c.loop-i.memory i (omega arith) in (
+    let home = c.write_numbers.ensures ∙ home_is f c.loop-i.memory i (omega arith) in (
       home ∙ ap (λ t. stored t i (at_home f i)) c.loop-i.invariant.0 ∙ ap (λ k. started f k c.args.memory.now) (sym (add-one i)),
-      ap length c.write-numbers.ensures ∙ headed_long c.loop-i.memory (260 * i) _ _ _ 0 ∙ long,
+      ap length c.write_numbers.ensures ∙ headed_long c.loop-i.memory (260 * i) _ _ _ 0 ∙ long,
     )
 
 pub returns : goal.returns
 unfolding number refusal_of
 returns c =
-    let ok = sym c.is-field.ensures ∙ c.if-not-is-field.false in
+    let ok = sym c.is_field.ensures ∙ c.if-not-is_field.false in
     let all : c.loop-i.i ≡ length c.args.bays.now = omega arith in
     let is = c.loop-i.invariant.0 ∙ ap (λ k. started (field_in c.args.across c.args.down c.args.walls.now c.args.bays.now) k c.args.memory.now) all in
     let a = c.args in

@@ -14,8 +14,8 @@ pub loop-i-init : goal.loop-i-init
 unfolding come_in
 loop-i-init c = refl
 
-pub take-arrival-comes-requires : goal.take-arrival-comes-requires
-take-arrival-comes-requires c =
+pub take_arrival-comes-requires : goal.take_arrival-comes-requires
+take_arrival-comes-requires c =
     let f = c.args.field.now in
     let ok = (come_holds f.across f.down f.walls.now f.bays.now c.args.memory.now c.args.due.now c.requires.accepted c.loop-i.i).0 in
     let each = c.requires.each in record { accepted = ap (memory_ok _ _) c.loop-i.invariant ∙ ok; there = omega arith }
@@ -32,7 +32,7 @@ loop-i-preserved c =
     elim c.if-due-i-eq1.branch [
       | then-due-i-eq1 w ↦
           w.memory-is
-          ∙ arrival_called f.across f.down f.walls.now f.bays.now _ _ i _ w.take-arrival-comes.ensures.arrives w.take-arrival-comes.ensures.left
+          ∙ arrival_called f.across f.down f.walls.now f.bays.now _ _ i _ w.take_arrival-comes.ensures.arrives w.take_arrival-comes.ensures.left
           ∙ ap (λ t. called h t (arrive i)) c.loop-i.invariant
           ∙ sym (come_due f.across f.down f.walls.now f.bays.now m due i (eq-eqb _ _ w.if-due-i-eq1.true)) ∙ next
       | else-due-i-eq1 w ↦

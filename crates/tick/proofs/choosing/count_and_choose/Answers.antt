@@ -20,6 +20,6 @@ returns c =
     let count = read.count in
     record {
       most = omega arith;
-      counts = c.count-waits.ensures ∙ ap (λ g. counted_to g ws c.read-fleet.result.count) same ∙ ap (counted_to (shuttle_in m) ws) read.count;
-      whose = c.choose.ensures.whose f (sym read.count) ∙ ap (λ g. chosen f g c.count-waits.new.waits) same;
+      counts = c.count_waits.ensures ∙ ap (λ g. counted_to g ws c.read-fleet.result.count) same ∙ ap (counted_to (shuttle_in m) ws) read.count;
+      whose = c.choose.ensures.whose f (sym read.count) ∙ ap (λ g. chosen f g c.count_waits.new.waits) same;
     }

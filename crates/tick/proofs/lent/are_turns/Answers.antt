@@ -4,10 +4,10 @@ use Rattle.std.proofs.lemmas.Bool.Decides.{nat_tests}
 use Rattle.tick.specs.Tick.{turns_ok}
 use Rattle.tick.proofs.lent.are_turns.Goals as goal
 
-pub returns-then-are-waits : goal.returns-then-are-waits
+pub returns-then-are_waits : goal.returns-then-are_waits
 unfolding turns_ok
-returns-then-are-waits c = grind (arith, nat_tests)
+returns-then-are_waits c = grind (arith, nat_tests)
 
-pub returns-else-are-waits : goal.returns-else-are-waits
+pub returns-else-are_waits : goal.returns-else-are_waits
 unfolding turns_ok
-returns-else-are-waits c = grind (arith, nat_tests)
+returns-else-are_waits c = grind (arith, nat_tests)

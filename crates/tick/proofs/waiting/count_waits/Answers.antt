@@ -11,14 +11,14 @@ pub loop-i-init : goal.loop-i-init
 unfolding counted_to
 loop-i-init c = refl
 
-pub offset-bounds-fleet-i : goal.offset-bounds-fleet-i
-offset-bounds-fleet-i c = let few = count_most c.args.fleet.now in omega arith
+pub offset_bounds-fleet-i : goal.offset_bounds-fleet-i
+offset_bounds-fleet-i c = let few = count_most c.args.fleet.now in omega arith
 
 pub bounds-fleet-i : goal.bounds-fleet-i
 bounds-fleet-i c = let few = count_most c.args.fleet.now in omega arith
 
-pub overflow-add-waits : goal.overflow-add-waits
-overflow-add-waits c =
+pub overflow_add-waits : goal.overflow_add-waits
+overflow_add-waits c =
     let f = c.args.fleet.now in
     let ws = c.args.waits.now in
     let i = c.loop-i.i in
