@@ -2,10 +2,10 @@
 use Rattle.capi.proofs.Numbers.{call_small}
 use Rattle.capi.proofs.happen.Goals as goal
 
-pub number-of-requires : goal.number-of-requires
-number-of-requires c = call_small _ _ _ _ _ _ _ _ _ _ _ _ c.happen-done.ensures.says
+pub number_of-requires : goal.number_of-requires
+number_of-requires c = call_small _ _ _ _ _ _ _ _ _ _ _ _ c.happen-done.ensures.says
 
 pub returns : goal.returns
 returns c =
     let k = c.happen-done.ensures in
-    simp c.number-of.ensures (record { says = k.says; stays = k.stays; less = k.less; falls = k.falls })
+    simp c.number_of.ensures (record { says = k.says; stays = k.stays; less = k.less; falls = k.falls })

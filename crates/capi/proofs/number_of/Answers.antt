@@ -3,9 +3,9 @@ use Rattle.std.proofs.Common.{sym, ap, arith}
 use Rattle.hall.specs.Answer.{number}
 use Rattle.capi.proofs.number_of.Goals as goal
 
-pub overflow-add-result : goal.overflow-add-result
+pub overflow_add-result : goal.overflow_add-result
 unfolding number
-overflow-add-result c = let e = ap number c.in-Refused.is in omega (arith, e, c.requires)
+overflow_add-result c = let e = ap number c.in-Refused.is in omega (arith, e, c.requires)
 
 pub returns-in-Happened : goal.returns-in-Happened
 unfolding number

@@ -3,17 +3,17 @@ use Rattle.std.proofs.Common.{sym, ap, arith}
 use Rattle.capi.specs.Numbers.{way_number}
 use Rattle.capi.proofs.shortest.number_of_way.Goals as goal
 
-pub overflow-mul-result : goal.overflow-mul-result
+pub overflow_mul-result : goal.overflow_mul-result
 unfolding way_number
-overflow-mul-result c = let e = ap way_number c.in-Found.is in omega (arith, e, c.requires)
+overflow_mul-result c = let e = ap way_number c.in-Found.is in omega (arith, e, c.requires)
 
-pub overflow-add-result : goal.overflow-add-result
+pub overflow_add-result : goal.overflow_add-result
 unfolding way_number
-overflow-add-result c = let e = ap way_number c.in-Found.is in omega (arith, e, c.requires)
+overflow_add-result c = let e = ap way_number c.in-Found.is in omega (arith, e, c.requires)
 
-pub overflow-add-result-in-Refused : goal.overflow-add-result-in-Refused
+pub overflow_add-result-in-Refused : goal.overflow_add-result-in-Refused
 unfolding way_number
-overflow-add-result-in-Refused c = let e = ap way_number c.in-Refused.is in omega (arith, e, c.requires)
+overflow_add-result-in-Refused c = let e = ap way_number c.in-Refused.is in omega (arith, e, c.requires)
 
 pub returns-in-Found : goal.returns-in-Found
 unfolding way_number

@@ -3,13 +3,13 @@ use Rattle.std.proofs.Common.{sym, ap, arith}
 use Rattle.tick.specs.Answer.{number}
 use Rattle.capi.proofs.ticks.number_of_ticked.Goals as goal
 
-pub overflow-mul-result : goal.overflow-mul-result
+pub overflow_mul-result : goal.overflow_mul-result
 unfolding number
-overflow-mul-result c = let e = ap number c.in-Granted.is in omega (arith, e, c.requires)
+overflow_mul-result c = let e = ap number c.in-Granted.is in omega (arith, e, c.requires)
 
-pub overflow-add-result : goal.overflow-add-result
+pub overflow_add-result : goal.overflow_add-result
 unfolding number
-overflow-add-result c = let e = ap number c.in-Refused.is in omega (arith, e, c.requires)
+overflow_add-result c = let e = ap number c.in-Refused.is in omega (arith, e, c.requires)
 
 pub returns-in-Granted : goal.returns-in-Granted
 unfolding number

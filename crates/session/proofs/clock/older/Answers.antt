@@ -6,8 +6,8 @@ use Rattle.session.proofs.clock.older.Goals as goal
 
 pub loop-age-preserved : goal.loop-age-preserved
 loop-age-preserved c =
-    map_more later (vec_items c.loop-age.all) (vec_items c.push.new.self) c.args.ages.now c.loop-age.age-index c.saturating-add.result (omega arith)
-    c.saturating-add.ensures c.in-ok-push.ensures.items
+    map_more later (vec_items c.loop-age.all) (vec_items c.push.new.self) c.args.ages.now c.loop-age.age-index c.saturating_add.result (omega arith)
+    c.saturating_add.ensures c.in_ok-push.ensures.items
     ∙ c.loop-age.invariant
 
 pub returns : goal.returns

@@ -7,5 +7,5 @@ use Rattle.session.proofs.commands.read_command.Goals as goal
 
 pub returns : goal.returns
 returns c =
-    IfOk-weaker c.command-in.result (λ s. meaning s ≡ asked (pieces c.as-slice.result.now)) (λ s. meaning s ≡ asked (words c.args.line.now))
-    (λ s is. is ∙ ap asked (ap pieces c.as-slice.ensures.value ∙ c.in-ok-found.ensures)) c.command-in.ensures
+    IfOk-weaker c.command_in.result (λ s. meaning s ≡ asked (pieces c.as_slice.result.now)) (λ s. meaning s ≡ asked (words c.args.line.now))
+    (λ s is. is ∙ ap asked (ap pieces c.as_slice.ensures.value ∙ c.in_ok-found.ensures)) c.command_in.ensures

@@ -4,16 +4,16 @@ use Rattle.session.specs.Ways.{square_at}
 use Rattle.session.proofs.Gather.{gather_more, gather_none, gather_over}
 use Rattle.session.proofs.leading.squares_at.Goals as goal
 
-pub returns-in-default : goal.returns-in-default
-returns-in-default c =
+pub returns-in_default : goal.returns-in_default
+returns-in_default c =
     sym (gather_none (square_at c.args.across c.args.down) (vec_items c.loop-place.squares) c.args.places.now c.loop-place.place-index _ (omega arith)
-    (sym c.square_at.ensures ∙ c.in-default.is))
+    (sym c.square_at.ensures ∙ c.in_default.is))
     ∙ c.loop-place.invariant
 
 pub loop-place-preserved : goal.loop-place-preserved
 loop-place-preserved c =
     gather_more (square_at c.args.across c.args.down) (vec_items c.loop-place.squares) (vec_items c.push.new.self) c.in-Some.square c.args.places.now
-    c.loop-place.place-index _ (omega arith) (sym c.square_at.ensures ∙ c.in-Some.is) c.in-ok-push.ensures.items
+    c.loop-place.place-index _ (omega arith) (sym c.square_at.ensures ∙ c.in-Some.is) c.in_ok-push.ensures.items
     ∙ c.loop-place.invariant
 
 pub returns : goal.returns

@@ -7,19 +7,19 @@ use Rattle.session.proofs.numbers.read_place.Goals as goal
 
 pub returns-then-comma-word : goal.returns-then-comma-word
 unfolding place_in
-returns-then-comma-word c = sym (cond-true _ _ _ (eq-eqb _ _ (sym c.bytes-before-comma.ensures.value ∙ c.if-comma-word.true)))
+returns-then-comma-word c = sym (cond-true _ _ _ (eq-eqb _ _ (sym c.bytes_before-comma.ensures.value ∙ c.if-comma-word.true)))
 
-pub returns-in-default : goal.returns-in-default
-returns-in-default c =
-    sym (place_half c.args.word.now c.bytes-before-comma.result c.bytes-before-comma.ensures.value c.if-comma-word.false
-    (sym c.in-default.is ∙ c.read-number.ensures))
+pub returns-in_default : goal.returns-in_default
+returns-in_default c =
+    sym (place_half c.args.word.now c.bytes_before-comma.result c.bytes_before-comma.ensures.value c.if-comma-word.false
+    (sym c.in_default.is ∙ c.read_number.ensures))
 
-pub returns-in-default-read-number : goal.returns-in-default-read-number
-returns-in-default-read-number c =
-    sym (place_made c.args.word.now c.bytes-before-comma.result c.bytes-before-comma.ensures.value c.if-comma-word.false (Some c.in-Some.column) None
-    (sym c.in-Some.is ∙ c.read-number.ensures) (sym c.in-default-read-number.is ∙ c.read-number-2.ensures))
+pub returns-in_default-read_number : goal.returns-in_default-read_number
+returns-in_default-read_number c =
+    sym (place_made c.args.word.now c.bytes_before-comma.result c.bytes_before-comma.ensures.value c.if-comma-word.false (Some c.in-Some.column) None
+    (sym c.in-Some.is ∙ c.read_number.ensures) (sym c.in_default-read_number.is ∙ c.read_number-2.ensures))
 
 pub returns : goal.returns
 returns c =
-    sym (place_made c.args.word.now c.bytes-before-comma.result c.bytes-before-comma.ensures.value c.if-comma-word.false (Some c.in-Some.column)
-    (Some c.in-Some-read-number.row) (sym c.in-Some.is ∙ c.read-number.ensures) (sym c.in-Some-read-number.is ∙ c.read-number-2.ensures))
+    sym (place_made c.args.word.now c.bytes_before-comma.result c.bytes_before-comma.ensures.value c.if-comma-word.false (Some c.in-Some.column)
+    (Some c.in-Some-read_number.row) (sym c.in-Some.is ∙ c.read_number.ensures) (sym c.in-Some-read_number.is ∙ c.read_number-2.ensures))

@@ -10,7 +10,7 @@ use Rattle.session.proofs.picture.draw.Goals as goal
 pub loop-row-preserved : goal.loop-row-preserved
 loop-row-preserved c =
     row_more (picture_row (field_of c.args.field.now) (shuttle_in c.args.memory.now)) c.loop-row.row (vec_items c.loop-row.signs)
-    (vec_items c.put-row.new.signs) c.loop-row.invariant c.in-ok-put-row.ensures
+    (vec_items c.put_row.new.signs) c.loop-row.invariant c.in_ok-put_row.ensures
 
 pub returns : goal.returns
 unfolding field_in

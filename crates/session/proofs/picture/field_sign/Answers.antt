@@ -9,11 +9,11 @@ use Rattle.session.proofs.Signs.{bay_here, bay_other, bay_none}
 use Rattle.session.proofs.picture.field_sign.Goals as goal
 use Rattle.session.proofs.picture.field_sign.Goals.{then-field-square-eq1, else-field-square-eq1, then-field-i, else-field-i}
 
-pub overflow-cast-sign : goal.overflow-cast-sign
-overflow-cast-sign c = let few = (facts c.args.field.now).few in omega arith
+pub overflow_cast-sign : goal.overflow_cast-sign
+overflow_cast-sign c = let few = (facts c.args.field.now).few in omega arith
 
-pub overflow-add-sign : goal.overflow-add-sign
-overflow-add-sign c = let few = (facts c.args.field.now).few in omega arith
+pub overflow_add-sign : goal.overflow_add-sign
+overflow_add-sign c = let few = (facts c.args.field.now).few in omega arith
 
 pub loop-i-init : goal.loop-i-init
 unfolding field_in

@@ -8,29 +8,29 @@ use Rattle.session.specs.Picture.{sign_at}
 use Rattle.session.proofs.Signs.{column_more, row_end}
 use Rattle.session.proofs.picture.put_row.Goals as goal
 
-pub overflow-mul-first : goal.overflow-mul-first
-overflow-mul-first c =
+pub overflow_mul-first : goal.overflow_mul-first
+overflow_mul-first c =
     let k = facts c.args.field.now in
     let below = mul-add-lt c.args.row c.args.field.now.across 0 c.args.field.now.down c.requires.inside k.across_least in
     let most = k.squares_most in
     omega (arith, below, most)
 
-pub overflow-add-first : goal.overflow-add-first
-overflow-add-first c =
+pub overflow_add-first : goal.overflow_add-first
+overflow_add-first c =
     let k = facts c.args.field.now in
     let below = mul-add-lt c.args.row c.args.field.now.across c.loop-column.column c.args.field.now.down c.requires.inside c.loop-column-test.true in
     let most = k.squares_most in
     omega (arith, below, most)
 
-pub overflow-cast-first : goal.overflow-cast-first
-overflow-cast-first c =
+pub overflow_cast-first : goal.overflow_cast-first
+overflow_cast-first c =
     let k = facts c.args.field.now in
     let below = mul-add-lt c.args.row c.args.field.now.across c.loop-column.column c.args.field.now.down c.requires.inside c.loop-column-test.true in
     let most = k.squares_most in
     omega (arith, below, most)
 
-pub square-sign-requires : goal.square-sign-requires
-square-sign-requires c =
+pub square_sign-requires : goal.square_sign-requires
+square_sign-requires c =
     let k = facts c.args.field.now in
     let below = mul-add-lt c.args.row c.args.field.now.across c.loop-column.column c.args.field.now.down c.requires.inside c.loop-column-test.true in
     let long = k.walls_long in
@@ -39,12 +39,12 @@ square-sign-requires c =
 pub loop-column-preserved : goal.loop-column-preserved
 loop-column-preserved c =
     column_more (λ x. sign_at (field_of c.args.field.now) (shuttle_in c.args.memory.now) (c.args.row * c.args.field.now.across + x))
-    c.loop-column.column c.square-sign.result (vec_items c.args.signs.now) (vec_items c.loop-column.signs) (vec_items c.push.new.self)
-    c.loop-column.invariant c.square-sign.ensures c.in-ok-push.ensures.items
+    c.loop-column.column c.square_sign.result (vec_items c.args.signs.now) (vec_items c.loop-column.signs) (vec_items c.push.new.self)
+    c.loop-column.invariant c.square_sign.ensures c.in_ok-push.ensures.items
 
 pub returns : goal.returns
 unfolding field_in
 returns c =
     row_end (λ x. sign_at (field_of c.args.field.now) (shuttle_in c.args.memory.now) (c.args.row * c.args.field.now.across + x))
     c.loop-column.column c.args.field.now.across (vec_items c.args.signs.now) (vec_items c.loop-column.signs) (vec_items c.push-2.new.self)
-    c.loop-column.invariant (omega arith) c.in-ok-push-2.ensures.items
+    c.loop-column.invariant (omega arith) c.in_ok-push-2.ensures.items

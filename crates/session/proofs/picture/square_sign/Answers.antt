@@ -6,26 +6,26 @@ use Rattle.field.proofs.Facts.{facts}
 use Rattle.session.specs.Picture.{ground, bay_sign, shuttle_sign}
 use Rattle.session.proofs.Signs.{shuttle_here, shuttle_other, shuttle_none}
 use Rattle.session.proofs.picture.square_sign.Goals as goal
-use Rattle.session.proofs.picture.square_sign.Goals.{then-holds-square, else-holds-square}
+use Rattle.session.proofs.picture.square_sign.Goals.{then-holds_square, else-holds_square}
 
-pub overflow-cast-sign : goal.overflow-cast-sign
-overflow-cast-sign c = let few = (facts c.args.field.now).few in omega arith
+pub overflow_cast-sign : goal.overflow_cast-sign
+overflow_cast-sign c = let few = (facts c.args.field.now).few in omega arith
 
-pub overflow-add-sign : goal.overflow-add-sign
-overflow-add-sign c = let few = (facts c.args.field.now).few in omega arith
+pub overflow_add-sign : goal.overflow_add-sign
+overflow_add-sign c = let few = (facts c.args.field.now).few in omega arith
 
 pub loop-i-init : goal.loop-i-init
-loop-i-init c = c.field-sign-sign.ensures ∙ shuttle_none (shuttle_in c.args.memory.now) c.args.square _
+loop-i-init c = c.field_sign-sign.ensures ∙ shuttle_none (shuttle_in c.args.memory.now) c.args.square _
 
 pub loop-i-preserved : goal.loop-i-preserved
 loop-i-preserved c =
     let f = field_of c.args.field.now in
     let other = bay_sign f (length c.args.field.now.bays.now) c.args.square (ground f c.args.square) in
-    elim c.if-holds-square.branch [
-      | then-holds-square w ↦ w.sign-is ∙ shuttle_here (shuttle_in c.args.memory.now) c.loop-i.i c.args.square other w.if-holds-square.ensures
-      | else-holds-square w ↦
+    elim c.if-holds_square.branch [
+      | then-holds_square w ↦ w.sign-is ∙ shuttle_here (shuttle_in c.args.memory.now) c.loop-i.i c.args.square other w.if-holds_square.ensures
+      | else-holds_square w ↦
           w.sign-is
-          ∙ shuttle_other (shuttle_in c.args.memory.now) c.loop-i.i c.args.square other c.loop-i.sign w.if-holds-square.ensures c.loop-i.invariant
+          ∙ shuttle_other (shuttle_in c.args.memory.now) c.loop-i.i c.args.square other c.loop-i.sign w.if-holds_square.ensures c.loop-i.invariant
     ]
 
 pub returns : goal.returns

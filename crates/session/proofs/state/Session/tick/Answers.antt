@@ -11,10 +11,10 @@ returns c =
     let k = c.args.clock.now in
     record {
       turned =
-          turned_at _ _ c.as-mut-slice-waits.result.now c.turn-answer.new.waits _ _ c.as-slice-due-now.result.now _ c.turn-answer.result
-          c.as-mut-slice-waits.ensures.value
-          (sym (with_items_is k.waits c.turn-answer.new.waits (c.turn-answer.auto.waits ∙ c.as-mut-slice-waits.ensures.len)) ∙ sym c.note.ensures.waits)
-          (c.as-slice-due-now.ensures.value ∙ c.in-ok-marks.ensures ∙ ap (marks_at c.args.due) (c.as-slice-after.ensures.value ∙ c.in-ok-ages.ensures ∙ ap older c.as-slice-before.ensures.value))
+          turned_at _ _ c.as_mut_slice-waits.result.now c.turn-answer.new.waits _ _ c.as_slice-due_now.result.now _ c.turn-answer.result
+          c.as_mut_slice-waits.ensures.value
+          (sym (with_items_is k.waits c.turn-answer.new.waits (c.turn-answer.auto.waits ∙ c.as_mut_slice-waits.ensures.len)) ∙ sym c.note.ensures.waits)
+          (c.as_slice-due_now.ensures.value ∙ c.in_ok-marks.ensures ∙ ap (marks_at c.args.due) (c.as_slice-after.ensures.value ∙ c.in_ok-ages.ensures ∙ ap older c.as_slice-before.ensures.value))
           c.turn-answer.ensures;
-      ages = c.note.ensures.ages ∙ ap (ages_after c.turn-answer.result) (c.in-ok-ages.ensures ∙ ap older c.as-slice-before.ensures.value);
+      ages = c.note.ensures.ages ∙ ap (ages_after c.turn-answer.result) (c.in_ok-ages.ensures ∙ ap older c.as_slice-before.ensures.value);
     }
