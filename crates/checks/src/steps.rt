@@ -5,28 +5,27 @@ use grant::is_granted;
 use orders::take_order;
 use safety::{Fleet, is_memory};
 use std::alloc::Global;
-use std::process::Abort;
 use std::test::Fail;
 
 // Whether all is safe, and whether the one and the other may step.
-fn answers(
-    rt: &impl Abort,
-    heap: Global,
-    at: [u16; 2],
-    one: &[u16],
-    other: &[u16],
-) -> Result<[bool; 3], Fail> {
+fn answers(heap: Global, at: [u16; 2], one: &[u16], other: &[u16]) -> Result<[bool; 3], Fail> {
     let memory = standing(heap, at, one, other)?;
-    assert!(rt; is_field(4, 2, &WALLS, &BAYS));
+    if !is_field(4, 2, &WALLS, &BAYS) {
+        return Err(Fail::new("the hall is no field"));
+    }
     let field = Field {
         across: 4,
         down: 2,
         walls: &WALLS,
         bays: &BAYS,
     };
-    assert!(rt; is_memory(&field, &memory));
+    if !is_memory(&field, &memory) {
+        return Err(Fail::new("the memory is not accepted"));
+    }
     let fleet = Fleet::read(&field, &memory);
-    assert!(rt; fleet.count == 2);
+    if fleet.count != 2 {
+        return Err(Fail::new("there are not two shuttles"));
+    }
     Ok([
         fleet.is_safe(),
         is_granted(&fleet, 0),
@@ -38,11 +37,11 @@ fn answers(
 fn steps_are_granted_where_all_stays_safe(rt: HostRuntime) -> Result<(), Fail> {
     let heap = rt.alloc();
     let answers = [
-        answers(&rt, heap, [0, 3], &[1, 2, 1, 0], &[2, 1, 2, 3])?,
-        answers(&rt, heap, [1, 3], &[2, 1, 0], &[2, 1, 2, 3])?,
-        answers(&rt, heap, [1, 2], &[2, 6, 5, 4, 0], &[1, 5, 6, 7, 3])?,
-        answers(&rt, heap, [0, 3], &[1, 2, 6, 5, 4, 0], &[7, 6, 5, 1, 2, 3])?,
-        answers(&rt, heap, [2, 7], &[6, 5, 4, 0], &[6, 5, 1, 2, 3])?,
+        answers(heap, [0, 3], &[1, 2, 1, 0], &[2, 1, 2, 3])?,
+        answers(heap, [1, 3], &[2, 1, 0], &[2, 1, 2, 3])?,
+        answers(heap, [1, 2], &[2, 6, 5, 4, 0], &[1, 5, 6, 7, 3])?,
+        answers(heap, [0, 3], &[1, 2, 6, 5, 4, 0], &[7, 6, 5, 1, 2, 3])?,
+        answers(heap, [2, 7], &[6, 5, 4, 0], &[6, 5, 1, 2, 3])?,
     ];
     let either = [true, true, true];
     let one = [true, true, false];

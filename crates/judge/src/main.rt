@@ -5,6 +5,7 @@ use anyhow::anyhow;
 use console::{Input, read_input, tell, turn_away};
 use field::{Field, is_field};
 use std::alloc::Global;
+use std::process::ExitCode;
 use text::{Judgement, Refusal, Unread, judge_line, lines_of, read_field, rows_in};
 
 const HELP: &str = "judge [FILE]: judge a field and its routes, from FILE or standard input.
@@ -68,12 +69,12 @@ fn run(rt: &HostRuntime) -> anyhow::Result<()> {
     }
 }
 
-fn main(rt: HostRuntime) -> anyhow::Result<()> {
+fn main(rt: HostRuntime) -> anyhow::Result<ExitCode> {
     match run(&rt) {
-        Ok(()) => Ok(()),
+        Ok(()) => Ok(ExitCode::SUCCESS),
         Err(e) => {
             eprintln!(rt; "judge: {e}")?;
-            Err(e)
+            Ok(ExitCode::FAILURE)
         }
     }
 }

@@ -6,6 +6,7 @@ use console::{Input, read_input, tell, turn_away};
 use session::{Clock, Command, Led, Place, Said, Session, Ticks, read_command};
 use std::alloc::Global;
 use std::io::Write;
+use std::process::ExitCode;
 use text::{Answer, Refusal, Unread, lines_of, read_field, rows_in};
 use tick::Ticked;
 
@@ -170,12 +171,12 @@ fn run(rt: &HostRuntime) -> anyhow::Result<()> {
     }
 }
 
-fn main(rt: HostRuntime) -> anyhow::Result<()> {
+fn main(rt: HostRuntime) -> anyhow::Result<ExitCode> {
     match run(&rt) {
-        Ok(()) => Ok(()),
+        Ok(()) => Ok(ExitCode::SUCCESS),
         Err(e) => {
             eprintln!(rt; "play: {e}")?;
-            Err(e)
+            Ok(ExitCode::FAILURE)
         }
     }
 }
