@@ -1,9 +1,9 @@
 -- An answer, as a number, is below 256.
-use Rattle.std.proofs.Common.{◌≡◌, ℕ, zero, suc, ◌+◌, ◌*◌, ◌≤◌, Bool, true, false, cond, eqb, List, length, refl, ◌∙◌, ⊎_elim, arith}
+use Rattle.std.proofs.Common.{ℕ, zero, suc, ◌≤◌, List, ⊎_elim, arith}
 use Rattle.std.proofs.lemmas.Bool.Decides.{nat_tests}
 use Rattle.rules.specs.Field.{Field}
 use Rattle.rules.specs.Event.{Event}
-use Rattle.rules.specs.Memory.{field_ok, memory_ok, event_ok, refusal}
+use Rattle.rules.specs.Memory.{refusal}
 use Rattle.calls.specs.Call.{Says}
 use Rattle.hall.specs.Start.{start_refusal, StartLeft, StartSays}
 

@@ -1,12 +1,11 @@
 -- The answer of a tick, as a number, is small.
-use Rattle.std.proofs.Common.{◌≡◌, ℕ, zero, suc, ◌+◌, ◌*◌, ◌<◌, ◌≤◌, Bool, true, false, cond, eqb, List, length, sym, refl, ⊎_elim, arith}
-use Rattle.std.proofs.lemmas.Bool.{cases_Bool}
+use Rattle.std.proofs.Common.{◌≡◌, ℕ, zero, suc, ◌<◌, ◌≤◌, true, List, length, refl, ⊎_elim, arith}
 use Rattle.std.proofs.lemmas.Bool.Decides.{nat_tests}
-use Rattle.rules.specs.Memory.{field_ok, memory_ok}
+use Rattle.rules.specs.Memory.{field_ok}
 use Rattle.rules.proofs.Fields.{accepted}
-use Rattle.turns.specs.Tick.{Turn, tick}
+use Rattle.turns.specs.Tick.{Turn}
 use Rattle.tick.specs.Answer.{number_for}
-use Rattle.tick.specs.Tick.{turns_ok, tick_refusal, ComesTo, TickSays}
+use Rattle.tick.specs.Tick.{tick_refusal, ComesTo, TickSays}
 
 refusal_most : (a d : ℕ) (ws bs m vs marks : List ℕ) → tick_refusal a d ws bs m vs marks ≤ 6
 unfolding tick_refusal

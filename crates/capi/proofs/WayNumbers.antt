@@ -1,8 +1,7 @@
 -- The answer of the way, as a number, is small.
-use Rattle.std.proofs.Common.{◌≡◌, ℕ, ◌<◌, ◌≤◌, List, length, arith}
+use Rattle.std.proofs.Common.{ℕ, ◌<◌, ◌≤◌, List, arith}
 use Rattle.std.proofs.lemmas.Bool.Decides.{nat_tests}
 use Rattle.rules.specs.Field.{Field}
-use Rattle.rules.specs.Memory.{field_in}
 use Rattle.ways.specs.Asked.{way_refusal}
 use Rattle.way.specs.Answer.{Answers}
 use Rattle.way.specs.declared.answer.Way.{Way}

@@ -1,11 +1,11 @@
 -- A step in memory: the next square comes off the front of what is left.
-use Rattle.std.proofs.Common.{◌≡◌, ℕ, suc, ◌+◌, ◌-◌, ◌<◌, ◌≤◌, Bool, true, false, not, ◌&&◌, ltb, leb, List, ◌∷◌, length, get_or, take, drop, set, sym, refl, ap, ◌∙◌, subst, arith}
+use Rattle.std.proofs.Common.{◌≡◌, ℕ, suc, ◌+◌, ◌-◌, ◌<◌, Bool, true, false, not, ◌&&◌, ltb, leb, List, ◌∷◌, get_or, take, drop, set, ap, ◌∙◌, subst, arith}
 use Rattle.std.proofs.lemmas.List.{drop_more}
-use Rattle.std.proofs.lemmas.Bool.{and_parts, and_from, ltb-true, lt-ltb, le-leb}
+use Rattle.std.proofs.lemmas.Bool.{and_parts, and_from, lt-ltb, le-leb}
 use Rattle.std.proofs.lemmas.Bool.Decides.{nat_tests}
 use Rattle.rules.specs.Tests.{every, is_empty}
 use Rattle.rules.specs.Field.{Field}
-use Rattle.rules.specs.Shuttle.{Shuttle, Fleet, held_by_other, put, next_square, stepped, stepped_to}
+use Rattle.rules.specs.Shuttle.{Fleet, held_by_other, put, next_square, stepped, stepped_to}
 use Rattle.rules.specs.Safe.{safe}
 use Rattle.rules.specs.Event.{grants}
 use Rattle.safety.specs.declared.shuttle.Shuttle.{Shuttle as Kept}

@@ -1,10 +1,10 @@
 -- What a call says, it keeps: memory stays reached and keeps its promises, and what is left falls.
-use Rattle.std.proofs.Common.{◌≡◌, ℕ, zero, suc, ◌+◌, ◌*◌, ◌<◌, ◌≤◌, Bool, true, false, cond, ltb, leb, ◌⊎◌, List, length, sym, refl, ap, ◌∙◌, subst, inl, inr, ⊎_elim, arith}
+use Rattle.std.proofs.Common.{◌≡◌, ℕ, zero, suc, ◌+◌, ◌*◌, ◌<◌, ◌≤◌, Bool, true, false, cond, ltb, leb, List, length, sym, refl, ap, ◌∙◌, subst, inl, inr, arith}
 use Rattle.std.proofs.lemmas.Bool.{and_parts, leb-true, ltb-true}
 use Rattle.rules.specs.Event.{Event, does, who, becomes}
 use Rattle.rules.specs.Memory.{field_in, field_ok, memory_ok, event_ok, event_in, shuttle_in, refusal, stored}
 use Rattle.promise.specs.Promise.{sum_to, squares_left, events_left}
-use Rattle.calls.specs.Call.{Says, Played, begun, more, refused, Reached, Promised}
+use Rattle.calls.specs.Call.{Says, more, refused, Reached, Promised}
 use Rattle.calls.proofs.Keep.{keeps_promises}
 use Rattle.calls.proofs.Less.{step_leaves_less, event_leaves_less}
 

@@ -1,9 +1,8 @@
 -- A part that is shifted, put back into the whole.
-use Rattle.std.proofs.Common.{◌≡◌, ℕ, suc, ◌+◌, ◌-◌, ◌<◌, ◌≤◌, List, [], ◌∷◌, ◌++◌, length, get_or, take, drop, set, sym, refl, ap, ◌∙◌, append_assoc, arith}
+use Rattle.std.proofs.Common.{◌≡◌, ℕ, ◌+◌, ◌-◌, ◌<◌, ◌≤◌, List, ◌++◌, length, get_or, take, drop, set, sym, ap, ◌∙◌, append_assoc, arith}
 use lib.Seq.{paste}
-use borrow.Rule.Slice.PartMut.{put_mid, Post-is}
-use Rattle.std.proofs.lemmas.List.{length-take, length-drop, length-set, take_all, take-append-drop, drop-append-le, get_or-drop, get_or-append_right, get_or_append_left, length-append, drop-drop}
-use Rattle.std.proofs.lemmas.List.Edits.{paste_more, paste_none, drop-paste}
+use Rattle.std.proofs.lemmas.List.{length-take, length-drop, take_all, take-append-drop, drop-append-le, get_or-drop, drop-drop}
+use Rattle.std.proofs.lemmas.List.Edits.{paste_more, drop-paste}
 use Rattle.hall.specs.Shift.{shifted}
 
 -- a shifted part: what follows its first element, and its last element again

@@ -1,5 +1,5 @@
 -- What the start answers and leaves.
-use Rattle.std.specs.Prelude.{◌≡◌, ℕ, zero, suc, ◌+◌, ◌*◌, Bool, true, false, cond, List, length, ◌==◌}
+use Rattle.std.specs.Prelude.{◌≡◌, ℕ, zero, suc, ◌+◌, ◌*◌, cond, List, length, ◌==◌}
 use Rattle.rules.specs.Memory.{field_in, field_ok, started}
 
 -- the number by which it is turned away: 1 for the field, 2 for memory of another length; 0 if it is not

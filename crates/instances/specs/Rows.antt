@@ -4,7 +4,7 @@ use Rattle.rules.specs.Tests.{is_empty}
 use Rattle.rules.specs.Route.{route_ok}
 use Rattle.rules.specs.Shuttle.{Fleet, holds, held_by_other, next_square, put, stepped}
 use Rattle.rules.specs.Safe.{safe}
-use Rattle.rules.specs.Event.{Event, order, step, arrive, takes, grants, does, after}
+use Rattle.rules.specs.Event.{Event, order, step, arrive, grants, does, after}
 use Rattle.promise.specs.Promise.{Drives}
 use Rattle.examples.specs.Hall.{hall}
 

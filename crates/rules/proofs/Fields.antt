@@ -1,8 +1,8 @@
 -- What an accepted field tells.
-use Rattle.std.proofs.Common.{◌≡◌, ℕ, ◌*◌, ◌<◌, ◌≤◌, true, false, eqb, ltb, leb, List, length, get_or, refl, arith}
+use Rattle.std.proofs.Common.{◌≡◌, ℕ, ◌*◌, ◌<◌, ◌≤◌, true, false, eqb, leb, List, length}
 use Rattle.std.proofs.lemmas.Nat.{mul-le}
-use Rattle.std.proofs.lemmas.Bool.{and_parts, and_from, leb-true, eqb-true, ltb-true, not-true}
-use Rattle.rules.specs.Tests.{every, every_to}
+use Rattle.std.proofs.lemmas.Bool.{and_parts, leb-true, eqb-true, not-true}
+use Rattle.rules.specs.Tests.{every}
 use Rattle.rules.specs.Field.{Field, sound, bay_ok, free_square, is_bay_to}
 use Rattle.rules.specs.Memory.{field_in, field_ok}
 use Rattle.rules.proofs.Tests.{every_to_tells}

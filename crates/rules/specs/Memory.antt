@@ -1,5 +1,5 @@
 -- The numbers that the entry is lent: a field, memory of 260 numbers a shuttle, an event; and what is turned away.
-use Rattle.std.specs.Prelude.{ℕ, zero, suc, ◌+◌, ◌*◌, Bool, true, false, cond, ◌&&◌, ltb, leb, List, [], ◌∷◌, ◌++◌, length, take, drop, ◌==◌, nat_le, nat_lt, slice_index}
+use Rattle.std.specs.Prelude.{ℕ, zero, suc, ◌+◌, ◌*◌, Bool, cond, ◌&&◌, List, ◌∷◌, ◌++◌, length, take, drop, ◌==◌, nat_le, nat_lt, slice_index}
 use Rattle.rules.specs.Tests.{every_to, every}
 use Rattle.rules.specs.Field.{Field, sound}
 use Rattle.rules.specs.Shuttle.{Shuttle, at_home}
@@ -12,7 +12,7 @@ field_in a d ws bs = record { across = a; down = d; wall = λ c. (slice_index ws
 -- a field that is accepted: at most 64 across and down, a mark of 0 or 1 for each square, at most 16 bays, and sound
 unfoldable pub field_ok : (across down : ℕ) → (walls bays : List ℕ) → Bool
 field_ok a d ws bs =
-    nat_le a 64 && (nat_le d 64 && (length ws == a * d && (every (λ w. leb w 1) ws
+    nat_le a 64 && (nat_le d 64 && (length ws == a * d && (every (λ w. nat_le w 1) ws
     && (nat_le (length bs) 16 && sound (field_in a d ws bs)))))
 
 -- memory: of each shuttle its square, 1 if it moves, the square behind, how long what is left is, and 256 places for what is left
@@ -30,7 +30,7 @@ unfoldable pub shuttle_ok : ℕ → List ℕ → ℕ → Bool
 shuttle_ok squares m i =
     nat_le (slice_index m (260 * i + 1)) 1 && (nat_le (slice_index m (260 * i + 3)) 256
     && (nat_lt (slice_index m (260 * i)) squares && (nat_lt (slice_index m (260 * i + 2)) squares
-    && every (λ c. ltb c squares) (take (slice_index m (260 * i + 3)) (drop (260 * i + 4) m)))))
+    && every (λ c. nat_lt c squares) (take (slice_index m (260 * i + 3)) (drop (260 * i + 4) m)))))
 
 -- memory that is accepted for n shuttles on so many squares
 unfoldable pub memory_ok : (squares n : ℕ) → List ℕ → Bool
@@ -38,7 +38,7 @@ memory_ok squares n m = length m == 260 * n && every_to (shuttle_ok squares m) n
 
 -- an event in numbers that is accepted: a kind of 0 to 2, a shuttle that is there, a route of at most 256 squares, none above 4095
 unfoldable pub event_ok : (n kind shuttle : ℕ) → List ℕ → Bool
-event_ok n kind i r = nat_le kind 2 && (nat_lt i n && (nat_le (length r) 256 && every (λ c. leb c 4095) r))
+event_ok n kind i r = nat_le kind 2 && (nat_lt i n && (nat_le (length r) 256 && every (λ c. nat_le c 4095) r))
 
 -- the event of kind 0 an order, 1 a step, 2 an arrival
 unfoldable pub event_in : (kind shuttle : ℕ) → List ℕ → Event

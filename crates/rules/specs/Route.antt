@@ -1,5 +1,5 @@
 -- Routes: where a shuttle may go, square by square, until it is in its bay.
-use Rattle.std.specs.Prelude.{ℕ, suc, Bool, true, cond, not, ◌&&◌, ◌||◌, List, [], ◌∷◌, ◌==◌}
+use Rattle.std.specs.Prelude.{ℕ, suc, Bool, cond, not, ◌&&◌, ◌||◌, List, [], ◌∷◌, ◌==◌}
 use Rattle.rules.specs.Tests.{is_empty}
 use Rattle.rules.specs.Field.{Field, is_bay, free_square, beside}
 

@@ -1,7 +1,7 @@
 -- What is safe: an order in which each shuttle can run home past those behind it; and the same found by trying.
 use Rattle.std.specs.Prelude.{◌≡◌, ℕ, zero, suc, Bool, true, cond, not, ◌&&◌, ◌||◌, List, [], ◌∷◌, ◌++◌, ◌==◌}
 use Rattle.rules.specs.Tests.{among, is_empty}
-use Rattle.rules.specs.Shuttle.{Shuttle, Fleet}
+use Rattle.rules.specs.Shuttle.{Fleet}
 
 -- none of these shuttles but i itself is on a square that i has still to go over
 unfoldable pub clear_of : Fleet → ℕ → List ℕ → Bool

@@ -1,5 +1,5 @@
 -- Masks as sets: union, one member, and when a set lies within another.
-use Rattle.std.proofs.Common.{◌≡◌, ℕ, zero, suc, ◌+◌, ◌-◌, ◌*◌, ◌/◌, ◌%◌, ◌^◌, ◌<◌, Bool, true, false, ◌||◌, eqb, sym, refl, ap, ◌∙◌, ⊎_elim, one-mul, one-add, arith}
+use Rattle.std.proofs.Common.{◌≡◌, ℕ, zero, suc, ◌+◌, ◌-◌, ◌/◌, ◌%◌, ◌^◌, ◌<◌, true, false, ◌||◌, eqb, sym, refl, ap, ◌∙◌, ⊎_elim, one-mul, one-add, arith}
 use lib.Bits.{bit_or, or_step, or_shr, or_zero_l}
 use Rattle.std.proofs.lemmas.Nat.{shr_le, shr-shr, shl-shr, pow-add, pow_pos, pow_below, div_below}
 use Rattle.std.proofs.lemmas.Bool.{cases_order, eq-eqb, ne_eqb}

@@ -1,9 +1,8 @@
 -- Shuttles that are read from accepted memory: what they stand for, and that they fit.
-use Rattle.std.proofs.Common.{◌≡◌, ℕ, ◌+◌, ◌-◌, ◌*◌, ◌<◌, ◌≤◌, Bool, true, false, eqb, ltb, leb, List, [], length, get_or, take, drop, sym, refl, ap, ◌∙◌, arith}
+use Rattle.std.proofs.Common.{◌≡◌, ℕ, ◌+◌, ◌-◌, ◌*◌, ◌<◌, ◌≤◌, true, eqb, ltb, leb, List, length, get_or, take, drop, arith}
 use Rattle.std.proofs.lemmas.List.{get_or_past, length-take, length-drop}
 use Rattle.std.proofs.lemmas.Bool.{and_parts, and_from, leb-true, ltb-true, lt-ltb, le-leb, eqb-true}
 use Rattle.rules.specs.Tests.{every}
-use Rattle.rules.specs.Shuttle.{Shuttle}
 use Rattle.rules.specs.Memory.{shuttle_in, shuttle_ok, memory_ok}
 use Rattle.rules.proofs.Tests.{every_to_tells, every_imp}
 use Rattle.safety.specs.Shuttles.{nobody, shuttle_of, kept_at, fits_in}

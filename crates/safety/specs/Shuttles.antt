@@ -1,5 +1,5 @@
 -- The shuttles of the code, which keep what is left of their routes in memory, and the fleet that they stand for.
-use Rattle.std.specs.Prelude.{ℕ, ◌+◌, ◌-◌, Bool, false, ◌&&◌, ltb, List, length, take, drop, ◌==◌, nat_le, nat_lt, slice_index, slice_index_or, slice_set}
+use Rattle.std.specs.Prelude.{ℕ, ◌+◌, ◌-◌, Bool, false, ◌&&◌, List, length, take, drop, ◌==◌, nat_le, nat_lt, slice_index, slice_index_or, slice_set}
 use Rattle.rules.specs.Tests.{every_to, every}
 use Rattle.rules.specs.Shuttle.{Shuttle, Fleet}
 use Rattle.rules.specs.Memory.{mark}
@@ -32,7 +32,7 @@ kept_at m place =
 unfoldable pub fits_in : List ℕ → Kept → Bool
 fits_in m s =
     nat_lt s.at 4096 && (nat_le s.from s.to && (nat_le s.to (length m)
-    && every (λ c. ltb c 4096) (take (s.to - s.from) (drop s.from m))))
+    && every (λ c. nat_lt c 4096) (take (s.to - s.from) (drop s.from m))))
 
 -- sixteen shuttles, of which each of the first n, at most 16, fits; and memory has room for no more
 unfoldable pub all_fit : List Kept → ℕ → List ℕ → Bool

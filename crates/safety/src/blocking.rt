@@ -1,5 +1,5 @@
 // Who blocks whom: a table of who stands where, and one walk over what is left of each route.
-ghost use Rattle.std.specs.Prelude.{◌≡◌, ℕ, ◌<◌, true, ◌&&◌, ltb, length, ◌==◌, nat_lt, slice_index, slice_index_or};
+ghost use Rattle.std.specs.Prelude.{◌≡◌, ℕ, ◌<◌, true, ◌&&◌, length, ◌==◌, nat_lt, slice_index, slice_index_or};
 ghost use Rattle.rules.specs.Tests.{every};
 ghost use Rattle.safety.specs.Masks.{has, met};
 ghost use Rattle.safety.specs.Shuttles.{nobody, fleet_of};
@@ -21,7 +21,7 @@ pub fn stand(fleet: &Fleet, table: &mut [u16])
 // The set of the shuttles that are on one of these squares.
 fn met_on(table: &[u16], route: &[u16]) -> u16
     requires long { length table.now ≡ 4096 }
-    requires squares { every (λ c. ltb c 4096) route.now ≡ true }
+    requires squares { every (λ c. nat_lt c 4096) route.now ≡ true }
     ensures { (j : ℕ) → has result j ≡ met table.now j route.now }
 {
     let mut all: u16 = 0;

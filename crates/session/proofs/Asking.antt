@@ -1,13 +1,13 @@
 -- What a line asks for, case by case.
-use Rattle.std.proofs.Common.{◌≡◌, ℕ, ◌<◌, ◌≤◌, true, false, cond, eqb, List, [], ◌∷◌, length, get_or, Some, None, Option, sym, refl, ap, ◌∙◌, arith, Bor}
+use Rattle.std.proofs.Common.{◌≡◌, ℕ, ◌<◌, ◌≤◌, false, eqb, List, [], ◌∷◌, length, get_or, Some, None, Option, sym, refl, ap, ◌∙◌, arith, Bor}
 use lib.ListN.{length-map}
 use Rattle.std.proofs.lemmas.List.{get_or-map, get_or_past}
-use Rattle.std.proofs.lemmas.Bool.{cond-true, cond-false}
+use Rattle.std.proofs.lemmas.Bool.{cond-false}
 use Rattle.text.specs.Lines.{pieces}
 use Rattle.session.specs.declared.commands.Verb.{Verb}
 use Rattle.session.specs.Numbers.{ticks_in}
 use Rattle.session.specs.declared.numbers.Ticks.{Ticks}
-use Rattle.session.specs.Commands.{Ask, nothing, unreadable, verb_of, shuttle_of, on_verb, asked_by, asked}
+use Rattle.session.specs.Commands.{nothing, unreadable, verb_of, shuttle_of, on_verb, asked_by, asked}
 
 -- the word at a place
 pub word_here : (ws : List (Bor (List ℕ))) (i : ℕ) (d : Bor (List ℕ)) → i < length ws → (get_or ws i d).now ≡ get_or (pieces ws) i []

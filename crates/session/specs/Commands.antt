@@ -1,5 +1,5 @@
 -- A line of commands: 'order a rrddlluu', 'step a', 'arrive a', 'way a 5,3 7,1', 'tick 20 d 3', 'show'.
-use Rattle.std.specs.Prelude.{ℕ, ◌-◌, Bool, true, false, cond, ◌&&◌, List, [], length, Some, None, vec_items, codes, Option, ◌==◌, nat_le, slice_index, slice_index_or}
+use Rattle.std.specs.Prelude.{ℕ, ◌-◌, cond, ◌&&◌, List, [], length, Some, None, vec_items, codes, Option, ◌==◌, nat_le, slice_index, slice_index_or}
 use Rattle.std.specs.Str.{bytes_eq}
 use Rattle.text.specs.declared.ways.Way.{Way}
 use Rattle.text.specs.Fields.{is_letter}
@@ -11,7 +11,6 @@ use Rattle.session.specs.declared.commands.Verb.{Verb}
 use Rattle.session.specs.declared.commands.Verb.TheVariants as verb
 use Rattle.session.specs.declared.commands.Said.{Said}
 use Rattle.session.specs.declared.commands.Said.TheVariants as said
-use Rattle.session.specs.declared.commands.Command.{Command}
 use Rattle.session.specs.declared.commands.Command.TheVariants as command
 
 -- what a line asks for: nothing, what can't be read, an event of a shuttle, its way through squares, ticks, the picture

@@ -1,5 +1,5 @@
 -- What comes of opening a hall and of an event in it.
-use Rattle.std.specs.Prelude.{◌≡◌, ℕ, ◌+◌, ◌*◌, ◌<◌, true, false, cond, List, length, get_or, Some, None, vec_items, Option}
+use Rattle.std.specs.Prelude.{◌≡◌, ℕ, ◌+◌, ◌<◌, false, cond, List, length, Some, None, vec_items, Option}
 use Rattle.rules.specs.Field.{Field}
 use Rattle.rules.specs.Shuttle.{Fleet, at_home}
 use Rattle.rules.specs.Memory.{field_in, field_ok, event_ok, event_in, shuttle_in}

@@ -2,7 +2,6 @@
 use Rattle.std.specs.Prelude.{◌≡◌, ℕ, ◌+◌, ◌*◌, ◌<◌, ◌≤◌, true, false, cond, ◌&&◌, ◌⊎◌, List, [], ◌∷◌, length, Some, None, vec_items, Option, ◌==◌, nat_lt, slice_index}
 use Rattle.ways.specs.Asked.{asked_ok}
 use Rattle.ways.specs.Shortest.{Shortest, Nowhere}
-use Rattle.text.specs.declared.answers.Refusal.{Refusal}
 use Rattle.text.specs.declared.answers.Refusal.TheVariants as refusal
 use Rattle.session.specs.Gathered.{gathered}
 use Rattle.session.specs.Played.{field_of}

@@ -1,5 +1,5 @@
 -- A field as rows of signs: a dot for a free square, # for a wall, letters a to p for the bays of shuttles 0 to 15.
-use Rattle.std.specs.Prelude.{◌≡◌, ℕ, zero, suc, ◌-◌, min, Bool, true, false, cond, not, ◌&&◌, ◌||◌, List, [], ◌∷◌, ◌++◌, map, length, Some, None, Option, ◌==◌, nat_le}
+use Rattle.std.specs.Prelude.{◌≡◌, ℕ, zero, suc, ◌-◌, min, Bool, true, cond, not, ◌&&◌, ◌||◌, List, [], ◌∷◌, ◌++◌, map, length, Some, None, Option, ◌==◌, nat_le}
 use Rattle.std.specs.List.{prefix_len}
 use Rattle.rules.specs.Tests.{is_empty, among, every}
 use Rattle.text.specs.declared.unread.Unread.{Unread}

@@ -1,5 +1,5 @@
 -- Routes as letters: l left, r right, u up, d down, from a square on.
-use Rattle.std.specs.Prelude.{ℕ, ◌+◌, ◌-◌, ◌*◌, ◌%◌, Bool, true, false, cond, ◌&&◌, List, [], ◌∷◌, ◌++◌, Some, None, Option, ◌==◌, nat_le, nat_lt}
+use Rattle.std.specs.Prelude.{ℕ, ◌+◌, ◌-◌, ◌*◌, ◌%◌, cond, ◌&&◌, List, [], ◌∷◌, ◌++◌, Some, None, Option, ◌==◌, nat_le, nat_lt}
 use Rattle.text.specs.declared.ways.Way.{Way}
 use Rattle.text.specs.declared.ways.Way.TheVariants.{Left, Right, Up, Down}
 

@@ -7,7 +7,6 @@ use Rattle.rules.specs.Route.{route_ok}
 use Rattle.rules.specs.Shuttle.{Shuttle, Fleet, holds}
 use Rattle.rules.proofs.Tests.{empty_from}
 use Rattle.agents.proofs.Tests.{some_below, false_from}
-use Rattle.promise.specs.Rule.{shuttles}
 use Rattle.promise.proofs.Shuttles.{blocks_is}
 use Rattle.promise.proofs.Places.{bays_differ, route_avoids, idle_home}
 use Rattle.turns.specs.Tick.{waits, one_more}

@@ -1,5 +1,5 @@
 -- A table of distances and a queue, for a leg of the code.
-use Rattle.std.specs.Prelude.{◌≡◌, ℕ, suc, ◌+◌, ◌<◌, ◌≤◌, true, List, length}
+use Rattle.std.specs.Prelude.{◌≡◌, ◌≢◌, ℕ, suc, ◌+◌, ◌<◌, ◌≤◌, true, List, length}
 use Rattle.field.specs.Model.{field_of}
 use Rattle.ways.proofs.Good.{enter}
 use Rattle.ways.proofs.Distances.{Distances, capped}
@@ -47,7 +47,7 @@ Bounded l n = (P : ℕ → ℕ) × Bounds (field_of l.field) l.goal l.last l.sta
 pub record Standing (l : Leg) (table : List ℕ) (c : ℕ) : Type 0 where
   pub long : length table ≡ 4096
   pub measured : Measured l table
-  pub off : c ≡ l.goal → ⊥
+  pub off : c ≢ l.goal
   pub known : distance_in table c < 65534
   pub most : distance_in table c ≤ distance_in table l.start
 

@@ -1,5 +1,5 @@
 -- What may be asked for, and by which number all else is turned away.
-use Rattle.std.specs.Prelude.{ℕ, ◌*◌, Bool, cond, not, ◌&&◌, ◌||◌, ltb, List, length, ◌==◌, nat_le, nat_lt}
+use Rattle.std.specs.Prelude.{ℕ, ◌*◌, Bool, cond, not, ◌&&◌, ◌||◌, List, length, ◌==◌, nat_le, nat_lt}
 use Rattle.rules.specs.Tests.{every}
 use Rattle.rules.specs.Field.{Field, free_square, is_bay}
 use Rattle.rules.specs.Memory.{field_in, field_ok}
@@ -11,7 +11,7 @@ start_ok f i c = free_square f c && (not (is_bay f c) || c == f.bay i)
 -- at most eight squares, none outside the field; a square to start from; 256 places for the route
 unfoldable pub asked_ok : Field → ℕ → ℕ → List ℕ → ℕ → Bool
 asked_ok f i c row places =
-    nat_le (length row) 8 && (every (λ g. ltb g (f.across * f.down)) row && (start_ok f i c && places == 256))
+    nat_le (length row) 8 && (every (λ g. nat_lt g (f.across * f.down)) row && (start_ok f i c && places == 256))
 
 -- the number by which a question is turned away, the first that applies: 1 the field, 3 a shuttle that isn't there, 5 the rest; 0 if it is not
 unfoldable pub way_refusal : (across down : ℕ) → (walls bays : List ℕ) → (shuttle from : ℕ) → (row : List ℕ) → (places : ℕ) → ℕ

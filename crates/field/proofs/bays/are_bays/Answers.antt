@@ -1,5 +1,5 @@
 -- The loop stops at the first bay that is none.
-use Rattle.std.proofs.Common.{sym, ◌∙◌, arith}
+use Rattle.std.proofs.Common.{sym, ◌∙◌}
 use Rattle.rules.proofs.Tests.{every_to_none, every_to_next, every_to_broken}
 use Rattle.field.proofs.bays.are_bays.Goals as goal
 

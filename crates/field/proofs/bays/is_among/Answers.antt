@@ -1,5 +1,5 @@
 -- The loop stops at the first bay that is the square.
-use Rattle.std.proofs.Common.{◌≡◌, eqb, get_or, sym, add-one, arith}
+use Rattle.std.proofs.Common.{eqb, get_or, sym, add-one, arith}
 use Rattle.std.proofs.lemmas.Bool.{or_from, eq-eqb, ne_eqb}
 use Rattle.rules.proofs.Tests.{any_to_from, any_to_nowhere, any_to_more}
 use Rattle.field.proofs.bays.is_among.Goals as goal

@@ -1,5 +1,5 @@
 -- Each test is one of the definition.
-use Rattle.std.proofs.Common.{◌≡◌, ltb, leb, sym, ap, ◌∙◌, arith}
+use Rattle.std.proofs.Common.{◌≡◌, ltb, leb, ap, ◌∙◌, arith}
 use mathlib.Core.Path.{fun_ext}
 use Rattle.std.proofs.lemmas.Bool.Decides.{nat_tests}
 use Rattle.rules.specs.Tests.{every}

@@ -1,5 +1,5 @@
 -- The fleet that is read is the one of memory.
-use Rattle.std.proofs.Common.{◌≡◌, sym, ap, ◌∙◌}
+use Rattle.std.proofs.Common.{sym, ap, ◌∙◌}
 use mathlib.Core.Path.{fun_ext}
 use Rattle.rules.specs.Event.{grants}
 use Rattle.rules.specs.Memory.{field_in}

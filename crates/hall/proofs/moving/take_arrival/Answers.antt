@@ -1,5 +1,5 @@
 -- A mark of 1 is a shuttle that moves, and its numbers lie in memory.
-use Rattle.std.proofs.Common.{◌≡◌, sym, refl, ap, ◌∙◌, arith}
+use Rattle.std.proofs.Common.{sym, refl, arith}
 use Rattle.std.proofs.lemmas.Bool.{and_from, and_right, lt-ltb, eq-eqb, ne_eqb}
 use Rattle.rules.specs.Event.{arrives}
 use Rattle.rules.specs.Memory.{shuttle_in, field_in}

@@ -1,8 +1,5 @@
 -- What is written is the shuttle after its arrival.
-use Rattle.std.proofs.Common.{◌≡◌, ◌+◌, ◌≤◌, false, length, get_or, sym, ◌∙◌, subst}
-use Rattle.safety.specs.Shuttles.{headed}
-use Rattle.rules.specs.Shuttle.{arrived}
-use Rattle.rules.specs.Memory.{stored, shuttle_in}
+use Rattle.std.proofs.Common.{◌+◌, ◌≤◌, length, get_or, ◌∙◌, subst}
 use Rattle.hall.proofs.Written.{arrival_is}
 use Rattle.hall.proofs.moving.write_arrival.Goals as goal
 

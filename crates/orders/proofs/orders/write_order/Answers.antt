@@ -1,5 +1,5 @@
 -- The part that was lent on holds the route.
-use Rattle.std.proofs.Common.{◌≡◌, ◌+◌, length, arith}
+use Rattle.std.proofs.Common.{◌+◌, length, arith}
 use borrow.Rule.Slice.PartMut.{Post-is}
 use Rattle.orders.proofs.orders.write_order.Goals as goal
 

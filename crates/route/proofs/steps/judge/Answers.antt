@@ -1,10 +1,8 @@
 -- The loop stops at the first step that may not be made.
-use Rattle.std.proofs.Common.{◌≡◌, true, false, eqb, length, get_or, drop, sym, refl, ◌∙◌, arith}
+use Rattle.std.proofs.Common.{sym, refl, ◌∙◌, arith}
 use Rattle.std.proofs.lemmas.Bool.{eq-eqb, ne_eqb}
 use Rattle.std.proofs.lemmas.Bool.Decides.{nat_tests}
-use Rattle.rules.specs.Route.{route_ok}
 use Rattle.rules.specs.Memory.{field_in}
-use Rattle.field.specs.Model.{field_of}
 use Rattle.route.specs.Judged.{verdict, is_right}
 use Rattle.route.proofs.Judging.{judging_more, judged_wrong, judged_end, last_step}
 use Rattle.route.proofs.steps.judge.Goals as goal

@@ -1,6 +1,5 @@
 -- The part of memory that is one route is handed on; it lies in memory, and its squares are in the table.
-use Rattle.std.proofs.Common.{◌≡◌, ℕ, ◌<◌, ◌≢◌, length, get_or, ap, ◌∙◌, arith, length-set, get_or-set_other, get_or-set_same, below_more}
-use Rattle.safety.specs.Masks.{has}
+use Rattle.std.proofs.Common.{◌<◌, ◌≢◌, length, ◌∙◌, arith, length-set, get_or-set_other, get_or-set_same, below_more}
 use Rattle.safety.proofs.Fitting.{count_most, fitting}
 use Rattle.safety.proofs.blocking.blockers.Goals as goal
 

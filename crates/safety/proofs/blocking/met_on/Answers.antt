@@ -1,5 +1,5 @@
 -- One square more is walked over.
-use Rattle.std.proofs.Common.{◌≡◌, ◌||◌, ltb, ap, ◌∙◌, arith}
+use Rattle.std.proofs.Common.{ltb, arith}
 use Rattle.std.proofs.lemmas.Bool.{ltb-true}
 use Rattle.std.proofs.lemmas.Bool.Decides.{nat_tests}
 use Rattle.rules.proofs.Tests.{every_tells}

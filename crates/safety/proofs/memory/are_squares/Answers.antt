@@ -1,5 +1,5 @@
 -- The largest square so far, one place further, and at the end.
-use Rattle.std.proofs.Common.{◌≡◌, ltb, sym, ◌∙◌, arith}
+use Rattle.std.proofs.Common.{ltb, ◌∙◌, arith}
 use Rattle.std.proofs.lemmas.Bool.{lt-ltb}
 use Rattle.rules.specs.Tests.{every}
 use Rattle.rules.proofs.Tests.{max_more, ltb_max, every_take_all}

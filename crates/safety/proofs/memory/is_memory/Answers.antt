@@ -1,7 +1,6 @@
 -- The field tells how many squares and shuttles there are.
-use Rattle.std.proofs.Common.{◌≡◌, ◌*◌, true, false, length, sym, ap, ◌∙◌, arith}
+use Rattle.std.proofs.Common.{◌≡◌, length, sym, ◌∙◌, arith}
 use Rattle.std.proofs.lemmas.Bool.{and_from, and_left, and_right, eq-eqb, ne_eqb}
-use Rattle.std.proofs.lemmas.Bool.Decides.{nat_tests}
 use Rattle.rules.specs.Memory.{memory_ok}
 use Rattle.rules.proofs.Tests.{every_to_none, every_to_next, every_to_broken}
 use Rattle.field.proofs.Facts.{facts}

@@ -1,5 +1,5 @@
 -- One digit more, or a sign that is none.
-use Rattle.std.proofs.Common.{◌≡◌, ℕ, ◌+◌, ◌*◌, ◌≤◌, min, sym, ap, ◌∙◌, arith}
+use Rattle.std.proofs.Common.{ℕ, ◌+◌, ◌*◌, ◌≤◌, min, sym, ap, ◌∙◌, arith}
 use Rattle.std.proofs.lemmas.Bool.{cond-true, cond-false}
 use Rattle.session.specs.Numbers.{number_in}
 use Rattle.session.proofs.Gather.{digit_more, digit_none, digits_over}

@@ -1,5 +1,5 @@
 -- No comma, or a number before it and one behind.
-use Rattle.std.proofs.Common.{◌≡◌, Some, None, sym, ap, ◌∙◌}
+use Rattle.std.proofs.Common.{Some, None, sym, ◌∙◌}
 use Rattle.std.proofs.lemmas.Bool.{cond-true, eq-eqb}
 use Rattle.session.specs.Numbers.{place_in}
 use Rattle.session.proofs.Places.{place_made, place_half}

@@ -1,5 +1,5 @@
 -- The letter, then the numbers, then their range.
-use Rattle.std.proofs.Common.{◌≡◌, Some, None, sym, ap, ◌∙◌}
+use Rattle.std.proofs.Common.{Some, sym, ap, ◌∙◌}
 use Rattle.std.proofs.lemmas.Bool.{cond-true, cond-false}
 use Rattle.session.specs.Numbers.{number_in, both_ticks, ticks_in}
 use Rattle.session.proofs.numbers.read_ticks.Goals as goal

@@ -1,5 +1,5 @@
 -- One letter more stands there, or none.
-use Rattle.std.proofs.Common.{◌+◌, ◌-◌, ◌<◌, min, [], ◌∷◌, ◌++◌, vec_items, sym, ap, ◌∙◌, append_assoc, append-nil, arith}
+use Rattle.std.proofs.Common.{◌+◌, ◌-◌, min, [], ◌∷◌, ◌++◌, vec_items, sym, ap, ◌∙◌, append_assoc, append-nil, arith}
 use Rattle.text.specs.Fields.{bays_from}
 use Rattle.text.proofs.Reading.{bay_more, bay_over, bays_end}
 use Rattle.text.proofs.fields.bays_of.Goals as goal

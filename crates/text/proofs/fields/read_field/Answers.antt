@@ -1,5 +1,5 @@
 -- The first fault of the rows is told, and where there is none the field that they show.
-use Rattle.std.proofs.Common.{map, sym, refl, ap, ◌∙◌, arith}
+use Rattle.std.proofs.Common.{map, sym, ap, ◌∙◌}
 use lib.ListN.{length-map}
 use Rattle.std.proofs.lemmas.Result.{err_from_is_err_and}
 use Rattle.text.specs.Lines.{pieces}

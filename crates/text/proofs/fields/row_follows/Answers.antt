@@ -1,5 +1,5 @@
 -- The row is as long as the first, and its signs follow.
-use Rattle.std.proofs.Common.{sym, ap, ◌∙◌, arith}
+use Rattle.std.proofs.Common.{arith}
 use Rattle.std.proofs.lemmas.Bool.Decides.{nat_tests}
 use Rattle.text.specs.Fields.{row_fits}
 use Rattle.text.proofs.fields.row_follows.Goals as goal

@@ -1,5 +1,5 @@
 -- One mark more.
-use Rattle.std.proofs.Common.{[], ◌∷◌, ◌++◌, map, sym, ap, ◌∙◌, arith}
+use Rattle.std.proofs.Common.{map, ap, ◌∙◌, arith}
 use Rattle.std.proofs.lemmas.List.{map_more, take_all}
 use Rattle.text.specs.Fields.{wall_mark}
 use Rattle.text.proofs.fields.walls_of.Goals as goal

@@ -1,5 +1,5 @@
 -- A line that is too short, or without the blank, has no prefix.
-use Rattle.std.proofs.Common.{get_or, sym, arith}
+use Rattle.std.proofs.Common.{get_or, sym}
 use Rattle.std.proofs.lemmas.Bool.{false≢true, and_right, ne_eqb}
 use Rattle.text.specs.Fields.{is_letter}
 use Rattle.text.proofs.Verdicts.{short_plain}

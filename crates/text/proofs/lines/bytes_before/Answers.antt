@@ -1,7 +1,6 @@
 -- One byte more is passed, or the byte to stop at is found.
-use Rattle.std.proofs.Common.{length, arith}
-use Rattle.std.proofs.lemmas.List.Sums.{prefix_len-drop_yes, prefix_len-drop_no, prefix_len-drop_all, prefix_len-le-length}
-use Rattle.std.proofs.lemmas.Bool.Decides.{nat_tests}
+use Rattle.std.proofs.Common.{arith}
+use Rattle.std.proofs.lemmas.List.Sums.{prefix_len-drop_yes, prefix_len-drop_no, prefix_len-drop_all}
 use Rattle.text.proofs.Cutting.{other, is_other, is_stop}
 use Rattle.text.proofs.lines.bytes_before.Goals as goal
 

@@ -1,5 +1,5 @@
 -- The first line comes off: what stands before the first LF, or all.
-use Rattle.std.proofs.Common.{◌≡◌, length, sym, arith, length-drop}
+use Rattle.std.proofs.Common.{arith, length-drop}
 use Rattle.std.proofs.lemmas.List.{take_rest}
 use Rattle.text.proofs.Cutting.{line_off, line_rest}
 use Rattle.text.proofs.lines.first_line.Goals as goal

@@ -1,5 +1,5 @@
 -- The first word comes off, or the blank before it.
-use Rattle.std.proofs.Common.{length, sym, ◌∙◌, arith, length-drop, length-take}
+use Rattle.std.proofs.Common.{sym, ◌∙◌, arith, length-drop, length-take}
 use Rattle.std.proofs.lemmas.List.{take_rest}
 use Rattle.text.proofs.Cutting.{blank_off, word_off}
 use Rattle.text.proofs.lines.first_word.Goals as goal

@@ -1,5 +1,5 @@
 -- A CR at the end goes, and nothing else.
-use Rattle.std.proofs.Common.{◌-◌, length, sym, refl, arith}
+use Rattle.std.proofs.Common.{◌-◌, length, arith}
 use Rattle.text.proofs.Cutting.{return_goes, no_return, none_stays}
 use Rattle.text.proofs.lines.strip_return.Goals as goal
 use Rattle.text.proofs.lines.strip_return.Goals.{else-n-gt0-via-then-n-gt0+else-line-n-eq13, else-n-gt0-via-else-n-gt0}

@@ -1,5 +1,5 @@
 -- An accepted field is small enough for every step to be a number of 16 bits.
-use Rattle.std.proofs.Common.{refl, arith}
+use Rattle.std.proofs.Common.{arith}
 use Rattle.field.proofs.Facts.{facts}
 use Rattle.text.proofs.ways.step_from.Goals as goal
 

@@ -1,5 +1,5 @@
 -- A mark within the field is 0 or 1, so that one that is not 0 is a wall.
-use Rattle.std.proofs.Common.{◌≡◌, true, leb, get_or, arith}
+use Rattle.std.proofs.Common.{leb, arith}
 use Rattle.std.proofs.lemmas.Bool.Decides.{nat_tests}
 use Rattle.rules.specs.Field.{free_square}
 use Rattle.rules.specs.Memory.{field_in}

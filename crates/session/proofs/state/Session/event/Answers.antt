@@ -2,7 +2,6 @@
 use Rattle.std.proofs.Common.{◌≡◌, vec_items, sym, refl, ◌∙◌}
 use Rattle.std.specs.Vec.{with_items}
 use Rattle.std.proofs.lemmas.List.{with_items_is}
-use Rattle.rules.specs.Memory.{event_ok}
 use Rattle.hall.specs.Answer.{number}
 use Rattle.session.specs.Played.{field_of}
 use Rattle.session.proofs.Turns.{led_on, says_on, by_three}

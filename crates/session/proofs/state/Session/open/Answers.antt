@@ -1,5 +1,5 @@
 -- Start memory is memory that calls have led to.
-use Rattle.std.proofs.Common.{◌≡◌, ◌*◌, length, vec_items, sym, refl, ap, ◌∙◌, arith}
+use Rattle.std.proofs.Common.{◌≡◌, vec_items, sym, refl, ap, ◌∙◌, arith}
 use Rattle.std.specs.Vec.{with_items}
 use Rattle.std.proofs.lemmas.List.{with_items_is}
 use Rattle.rules.specs.Shuttle.{at_home}

@@ -1,6 +1,5 @@
 -- The ages are one tick later, and the entry's tick is made with their marks.
-use Rattle.std.proofs.Common.{◌≡◌, vec_items, sym, refl, ap, ◌∙◌}
-use Rattle.std.specs.Vec.{with_items}
+use Rattle.std.proofs.Common.{sym, ap, ◌∙◌}
 use Rattle.std.proofs.lemmas.List.{with_items_is}
 use Rattle.session.specs.Ticks.{older, marks_at, ages_after}
 use Rattle.session.proofs.Turns.{turned_at}

@@ -1,5 +1,5 @@
 -- What the way answers.
-use Rattle.std.proofs.Common.{◌≡◌, ◌<◌, length, get_or, vec_items, sym, refl, ap, ◌∙◌, inl, inr, arith}
+use Rattle.std.proofs.Common.{◌<◌, length, get_or, vec_items, sym, refl, ap, ◌∙◌, inr, arith}
 use Rattle.std.specs.Option.{option_map}
 use Rattle.session.proofs.Told.{told_along, told_nowhere, told_refused}
 use Rattle.rules.proofs.Fields.{accepted}
