@@ -1,6 +1,7 @@
 //! The events that are measured.
 
-use crate::plain::{PER_SHUTTLE, PLACES};
+use shared::call::{ARRIVE, FieldNumbers, ORDER, STEP};
+use shared::memory::{LENGTH, MARK, PER_SHUTTLE, PLACES, SQUARE, part_of_mut};
 
 pub struct Event {
     pub name: String,
@@ -10,15 +11,11 @@ pub struct Event {
     pub bays: Vec<u16>,
     pub memory: Vec<u16>,
     pub kind: u64,
-    pub shuttle: u64,
+    pub shuttle: usize,
     pub route: Vec<u16>,
     /// What every contender must answer.
-    pub answer: u64,
+    pub happens: bool,
 }
-
-const ORDER: u64 = 0;
-const STEP: u64 = 1;
-const ARRIVE: u64 = 2;
 
 /// Squares of the band of four rows that each shuttle has for itself in the largest hall.
 const BAND: usize = 256;
@@ -40,11 +37,10 @@ impl Event {
     pub fn free(name: &str, shuttles: usize, left: usize) -> Event {
         let bays: Vec<u16> = (0..shuttles).map(|band| (BAND * band) as u16).collect();
         let mut memory = vec![u16::MAX; PER_SHUTTLE * shuttles];
-        for band in 0..shuttles {
+        for (band, (part, bay)) in memory.chunks_exact_mut(PER_SHUTTLE).zip(&bays).enumerate() {
             let route = round(band);
             let (done, rest) = route.split_at(route.len() - left);
-            let square = *done.last().unwrap_or(&bays[band]);
-            let part = &mut memory[PER_SHUTTLE * band..][..PER_SHUTTLE];
+            let square = *done.last().unwrap_or(bay);
             part[..PLACES].copy_from_slice(&[square, 0, square, left as u16]);
             part[PLACES..PLACES + left].copy_from_slice(rest);
         }
@@ -58,7 +54,7 @@ impl Event {
             kind: STEP,
             shuttle: 0,
             route: Vec::new(),
-            answer: 0,
+            happens: true,
         }
     }
 
@@ -66,8 +62,12 @@ impl Event {
         Event::free(name, 16, 256)
     }
 
+    pub fn field(&self) -> FieldNumbers<'_> {
+        FieldNumbers { across: self.across, down: self.down, walls: &self.walls, bays: &self.bays }
+    }
+
     pub fn of_shuttle(&mut self, shuttle: usize) -> &mut [u16] {
-        &mut self.memory[PER_SHUTTLE * shuttle..][..PER_SHUTTLE]
+        part_of_mut(&mut self.memory, shuttle)
     }
 
     /// Puts the other's square among what is left to this one, in the middle. Such memory is acceptable though no
@@ -79,7 +79,7 @@ impl Event {
     /// From shuttle `first` on each is blocked by the next one only, so that a round takes out just the last.
     fn chain(mut self, first: usize) -> Event {
         for i in first..15 {
-            let next = self.of_shuttle(i + 1)[0];
+            let next = self.of_shuttle(i + 1)[SQUARE];
             self.block(i, next);
         }
         self
@@ -89,29 +89,29 @@ impl Event {
 fn held() -> Event {
     let mut case = Event::largest("step refused, square held");
     let next = case.of_shuttle(0)[PLACES];
-    case.of_shuttle(1)[0] = next;
-    case.answer = 1;
+    case.of_shuttle(1)[SQUARE] = next;
+    case.happens = false;
     case
 }
 
 fn not_safe() -> Event {
     let mut case = Event::largest("step refused, unsafe after 14 rounds").chain(2);
-    let (after, other) = (case.of_shuttle(0)[PLACES], case.of_shuttle(1)[0]);
+    let (after, other) = (case.of_shuttle(0)[PLACES], case.of_shuttle(1)[SQUARE]);
     case.block(0, other);
     case.block(1, after);
-    case.answer = 1;
+    case.happens = false;
     case
 }
 
 fn order() -> Event {
     let mut case = Event::largest("order of 256 squares");
-    case.of_shuttle(0)[3] = 0;
+    case.of_shuttle(0)[LENGTH] = 0;
     Event { kind: ORDER, route: round(0), ..case }
 }
 
 fn arrival() -> Event {
     let mut case = Event::largest("arrival");
-    case.of_shuttle(0)[1] = 1;
+    case.of_shuttle(0)[MARK] = 1;
     Event { kind: ARRIVE, ..case }
 }
 

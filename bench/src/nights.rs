@@ -1,8 +1,9 @@
 //! How many ticks nights take until all are home, beside the bound that is proved.
 
-use crate::plain::PER_SHUTTLE;
-use crate::plain_tick;
+use crate::plain::Plain;
 use crate::warehouse::{Warehouse, take_order};
+use shared::call::{Ticks, TurnNumbers};
+use shared::memory::{LENGTH, MARK, PER_SHUTTLE};
 
 const NIGHTS: u64 = 20;
 
@@ -23,16 +24,16 @@ impl Night {
         for (i, part) in memory.chunks_exact_mut(PER_SHUTTLE).enumerate() {
             take_order(part, &warehouse.order(number, i, 0));
         }
-        let mut night = Night { left: memory.chunks(PER_SHUTTLE).map(|part| u64::from(part[3])).sum(), ticks: 0 };
+        let left = memory.chunks(PER_SHUTTLE).map(|part| u64::from(part[LENGTH])).sum();
+        let mut night = Night { left, ticks: 0 };
         let (mut waits, mut ages) = (vec![0; count], vec![0; count]);
-        while memory.chunks(PER_SHUTTLE).any(|part| part[1] == 1 || part[3] > 0) {
+        while memory.chunks(PER_SHUTTLE).any(|part| part[MARK] == 1 || part[LENGTH] > 0) {
             ages.iter_mut().for_each(|age| *age += 1);
             let due: Vec<u8> = ages.iter().map(|&age| u8::from(age >= after)).collect();
-            let (across, down) = (Warehouse::ACROSS, Warehouse::DOWN);
-            let Warehouse { walls, bays, .. } = warehouse;
-            let answer = plain_tick::tick(across, down, walls, bays, &mut memory, &mut waits, &due);
-            if answer & 0xff == 0 {
-                ages[(answer >> 8) as usize] = 0;
+            let turns = TurnNumbers { waits: &mut waits, due: &due };
+            let granted = Plain.tick(warehouse.field(), &mut memory, turns);
+            if let Some(i) = granted.expect("a tick of a night is never refused") {
+                ages[i] = 0;
             }
             night.ticks += 1;
         }

@@ -1,14 +1,37 @@
 //! The library's algorithm with all its checks in plain Rust.
 
-pub const PER_SHUTTLE: usize = 260;
-pub const PLACES: usize = 4;
-pub const MOST_LEFT: usize = 256;
+use shared::answer::{Answer, Refusal};
+use shared::call::{ARRIVE, Entry, EventNumbers, FieldNumbers, ORDER, STEP};
+use shared::memory::{BEHIND, LENGTH, MARK, MOST_LEFT, PER_SHUTTLE, PLACES, SQUARE, part_of, part_of_mut};
 
-const HAPPENED: u64 = 0;
-const NOT: u64 = 1;
-const WRONG_FIELD: u64 = 17;
-const WRONG_MEMORY: u64 = 18;
-const WRONG_EVENT: u64 = 19;
+#[derive(Clone, Copy, Default)]
+pub struct Plain;
+
+impl Entry for Plain {
+    fn happen(&mut self, field: FieldNumbers, memory: &mut [u16], event: EventNumbers) -> Answer<bool> {
+        check_field(field)?;
+        check_memory(field, memory)?;
+        check_event(field, event)?;
+        let i = event.shuttle as usize;
+        let fleet = fleet(memory);
+        Ok(match event.kind {
+            ORDER => order(field, fleet[i], i, memory, event.route),
+            STEP => step(&fleet, field.bays.len(), i, memory),
+            _ => arrive(fleet[i], part_of_mut(memory, i)),
+        })
+    }
+
+    fn start(&mut self, field: FieldNumbers, memory: &mut [u16]) -> Answer<()> {
+        check_field(field)?;
+        if memory.len() != PER_SHUTTLE * field.bays.len() {
+            return Err(Refusal::Memory);
+        }
+        for (part, &bay) in memory.chunks_exact_mut(PER_SHUTTLE).zip(field.bays) {
+            part[..PLACES].copy_from_slice(&[bay, 0, bay, 0]);
+        }
+        Ok(())
+    }
+}
 
 #[derive(Clone, Copy, Default)]
 pub struct Shuttle {
@@ -26,37 +49,11 @@ impl Shuttle {
 
 pub type Fleet = [Shuttle; 16];
 
-#[allow(clippy::too_many_arguments)]
-pub fn happen(
-    across: u64,
-    down: u64,
-    walls: &[u8],
-    bays: &[u16],
-    memory: &mut [u16],
-    kind: u64,
-    shuttle: u64,
-    route: &[u16],
-) -> u64 {
-    if !field_fits(across, down, walls, bays) {
-        return WRONG_FIELD;
-    }
-    if !memory_fits(walls.len(), bays.len(), memory) {
-        return WRONG_MEMORY;
-    }
-    if !event_fits(kind, shuttle, bays.len(), route) {
-        return WRONG_EVENT;
-    }
-    let i = shuttle as usize;
-    let fleet = fleet(memory);
-    let happened = match kind {
-        0 => order(across as u16, walls, bays, fleet[i], i, memory, route),
-        1 => step(&fleet, bays.len(), i, memory),
-        _ => arrive(fleet[i], i, memory),
-    };
-    if happened { HAPPENED } else { NOT }
+pub fn check_field(field: FieldNumbers) -> Answer<()> {
+    if field_fits(field) { Ok(()) } else { Err(Refusal::Field) }
 }
 
-pub fn field_fits(across: u64, down: u64, walls: &[u8], bays: &[u16]) -> bool {
+fn field_fits(FieldNumbers { across, down, walls, bays }: FieldNumbers) -> bool {
     if !(1..=64).contains(&across) || !(1..=64).contains(&down) || walls.len() as u64 != across * down {
         return false;
     }
@@ -69,62 +66,58 @@ pub fn field_fits(across: u64, down: u64, walls: &[u8], bays: &[u16]) -> bool {
         .all(|(i, &bay)| walls.get(usize::from(bay)).is_some_and(|&mark| mark == 0) && !bays[..i].contains(&bay))
 }
 
-pub fn memory_fits(squares: usize, shuttles: usize, memory: &[u16]) -> bool {
-    memory.len() == PER_SHUTTLE * shuttles && memory.chunks_exact(PER_SHUTTLE).all(|part| part_fits(squares, part))
+pub fn check_memory(field: FieldNumbers, memory: &[u16]) -> Answer<()> {
+    let mut parts = memory.chunks_exact(PER_SHUTTLE);
+    let fits = memory.len() == PER_SHUTTLE * field.bays.len() && parts.all(|part| part_fits(field.walls.len(), part));
+    if fits { Ok(()) } else { Err(Refusal::Memory) }
 }
 
 fn part_fits(squares: usize, part: &[u16]) -> bool {
-    let length = usize::from(part[3]);
-    if part[1] > 1 || length > MOST_LEFT {
+    let length = usize::from(part[LENGTH]);
+    if part[MARK] > 1 || length > MOST_LEFT {
         return false;
     }
     let left = &part[PLACES..PLACES + length];
-    let top = left.iter().fold(part[0].max(part[2]), |top, &square| top.max(square));
+    let top = left.iter().fold(part[SQUARE].max(part[BEHIND]), |top, &square| top.max(square));
     usize::from(top) < squares
 }
 
-pub fn event_fits(kind: u64, shuttle: u64, shuttles: usize, route: &[u16]) -> bool {
-    kind <= 2
-        && shuttle < shuttles as u64
+pub fn check_event(field: FieldNumbers, event: EventNumbers) -> Answer<()> {
+    let EventNumbers { kind, shuttle, route } = event;
+    let fits = kind <= ARRIVE
+        && shuttle < field.bays.len() as u64
         && route.len() <= MOST_LEFT
-        && route.iter().fold(0, |top, &square| top.max(square)) <= 4095
+        && route.iter().fold(0, |top, &square| top.max(square)) <= 4095;
+    if fits { Ok(()) } else { Err(Refusal::Event) }
 }
 
 pub fn fleet(memory: &[u16]) -> Fleet {
     let mut fleet = Fleet::default();
     for (shuttle, part) in fleet.iter_mut().zip(memory.chunks_exact(PER_SHUTTLE)) {
-        *shuttle = Shuttle { square: part[0], moves: part[1] == 1, behind: part[2], length: part[3] };
+        *shuttle = Shuttle { square: part[SQUARE], moves: part[MARK] == 1, behind: part[BEHIND], length: part[LENGTH] };
     }
     fleet
 }
 
-fn order(
-    across: u16,
-    walls: &[u8],
-    bays: &[u16],
-    shuttle: Shuttle,
-    i: usize,
-    memory: &mut [u16],
-    route: &[u16],
-) -> bool {
-    if shuttle.moves || shuttle.length > 0 || !is_route(across, walls, bays, bays[i], shuttle.square, route) {
+fn order(field: FieldNumbers, shuttle: Shuttle, i: usize, memory: &mut [u16], route: &[u16]) -> bool {
+    if shuttle.moves || shuttle.length > 0 || !is_route(field, field.bays[i], shuttle.square, route) {
         return false;
     }
-    let part = &mut memory[PER_SHUTTLE * i..PER_SHUTTLE * (i + 1)];
+    let part = part_of_mut(memory, i);
     part[PLACES..PLACES + route.len()].copy_from_slice(route);
-    part[1] = 0;
-    part[2] = shuttle.square;
-    part[3] = route.len() as u16;
+    part[MARK] = 0;
+    part[BEHIND] = shuttle.square;
+    part[LENGTH] = route.len() as u16;
     true
 }
 
-fn is_route(across: u16, walls: &[u8], bays: &[u16], own: u16, from: u16, route: &[u16]) -> bool {
+fn is_route(FieldNumbers { across, walls, bays, .. }: FieldNumbers, own: u16, from: u16, route: &[u16]) -> bool {
     let mut at = from;
     for (step, &next) in route.iter().enumerate() {
         let last = step + 1 == route.len();
         let free = walls.get(usize::from(next)).is_some_and(|&mark| mark == 0);
         let enters = if next == own { last } else { !bays.contains(&next) };
-        if !free || !beside(across, at, next) || !enters {
+        if !free || !beside(across as u16, at, next) || !enters {
             return false;
         }
         at = next;
@@ -140,7 +133,7 @@ fn beside(across: u16, one: u16, other: u16) -> bool {
 fn step(fleet: &Fleet, shuttles: usize, i: usize, memory: &mut [u16]) -> bool {
     let granted = is_granted(fleet, shuttles, i, memory);
     if granted {
-        write_step(&mut memory[PER_SHUTTLE * i..PER_SHUTTLE * (i + 1)]);
+        write_step(part_of_mut(memory, i));
     }
     granted
 }
@@ -150,7 +143,7 @@ pub fn is_granted(fleet: &Fleet, shuttles: usize, i: usize, memory: &[u16]) -> b
     if moves || length == 0 {
         return false;
     }
-    let next = memory[PER_SHUTTLE * i + PLACES];
+    let next = part_of(memory, i)[PLACES];
     if fleet[..shuttles].iter().enumerate().any(|(j, other)| j != i && other.holds(next)) {
         return false;
     }
@@ -160,7 +153,7 @@ pub fn is_granted(fleet: &Fleet, shuttles: usize, i: usize, memory: &[u16]) -> b
 }
 
 pub fn write_step(part: &mut [u16]) {
-    let (square, length, next) = (part[0], part[3], part[PLACES]);
+    let (square, length, next) = (part[SQUARE], part[LENGTH], part[PLACES]);
     part[..PLACES].copy_from_slice(&[next, 1, square, length - 1]);
     part.copy_within(PLACES + 1..PLACES + usize::from(length), PLACES);
 }
@@ -198,10 +191,10 @@ pub fn all_taken_out(blockers: &[u16]) -> bool {
     }
 }
 
-fn arrive(shuttle: Shuttle, i: usize, memory: &mut [u16]) -> bool {
+fn arrive(shuttle: Shuttle, part: &mut [u16]) -> bool {
     if shuttle.moves {
-        memory[PER_SHUTTLE * i + 1] = 0;
-        memory[PER_SHUTTLE * i + 2] = shuttle.square;
+        part[MARK] = 0;
+        part[BEHIND] = shuttle.square;
     }
     shuttle.moves
 }

@@ -1,29 +1,21 @@
 //! A tick by the library's algorithm with all its checks in plain Rust.
 
-use crate::plain::{Fleet, PER_SHUTTLE, field_fits, fleet, is_granted, memory_fits, write_step};
+use crate::plain::{Fleet, Plain, check_field, check_memory, fleet, is_granted, write_step};
+use shared::answer::{Answer, Refusal};
+use shared::call::{FieldNumbers, Ticks, TurnNumbers};
+use shared::memory::{BEHIND, MARK, PER_SHUTTLE, SQUARE, part_of_mut};
 
-pub fn tick(
-    across: u64,
-    down: u64,
-    walls: &[u8],
-    bays: &[u16],
-    memory: &mut [u16],
-    waits: &mut [u64],
-    due: &[u8],
-) -> u64 {
-    if !field_fits(across, down, walls, bays) {
-        return 17;
-    }
-    if !memory_fits(walls.len(), bays.len(), memory) {
-        return 18;
-    }
-    let lengths_fit = waits.len() == bays.len() && due.len() == bays.len();
-    if !lengths_fit || waits.contains(&u64::MAX) || due.iter().any(|&mark| mark > 1) {
-        return 22;
-    }
-    match make(memory, waits, due, |fleet, memory, i| is_granted(fleet, bays.len(), i, memory)) {
-        Some(i) => (i as u64) << 8,
-        None => 1,
+impl Ticks for Plain {
+    fn tick(&mut self, field: FieldNumbers, memory: &mut [u16], turns: TurnNumbers) -> Answer<Option<usize>> {
+        check_field(field)?;
+        check_memory(field, memory)?;
+        let TurnNumbers { waits, due } = turns;
+        let shuttles = field.bays.len();
+        let lengths_fit = waits.len() == shuttles && due.len() == shuttles;
+        if !lengths_fit || waits.contains(&u64::MAX) || due.iter().any(|&mark| mark > 1) {
+            return Err(Refusal::Turns);
+        }
+        Ok(make(memory, waits, due, |fleet, memory, i| is_granted(fleet, shuttles, i, memory)))
     }
 }
 
@@ -34,9 +26,10 @@ pub fn make(
     due: &[u8],
     may_step: impl Fn(&Fleet, &[u16], usize) -> bool,
 ) -> Option<usize> {
-    for (part, _) in memory.chunks_exact_mut(PER_SHUTTLE).zip(due).filter(|(part, mark)| **mark == 1 && part[1] == 1) {
-        part[1] = 0;
-        part[2] = part[0];
+    let parts = memory.chunks_exact_mut(PER_SHUTTLE).zip(due);
+    for (part, _) in parts.filter(|(part, mark)| **mark == 1 && part[MARK] == 1) {
+        part[MARK] = 0;
+        part[BEHIND] = part[SQUARE];
     }
     let fleet = fleet(memory);
     for (shuttle, wait) in fleet.iter().zip(&mut *waits) {
@@ -50,7 +43,7 @@ pub fn make(
         }
     }
     let whose = best?;
-    write_step(&mut memory[PER_SHUTTLE * whose..PER_SHUTTLE * (whose + 1)]);
+    write_step(part_of_mut(memory, whose));
     waits[whose] = 0;
     Some(whose)
 }

@@ -1,7 +1,10 @@
 //! Shortest routes by the library's search with all its checks in plain Rust: for each leg the distances spread from
 //! its goal until they reach its start, and the walk goes down them.
 
-use crate::plain::{MOST_LEFT, field_fits};
+use crate::plain::{Plain, check_field};
+use shared::answer::{Answer, Refusal};
+use shared::call::{AskedNumbers, FieldNumbers, MOST_ASKED, Ways};
+use shared::memory::MOST_LEFT;
 
 const FAR: u16 = u16::MAX;
 const SHUT: u16 = u16::MAX - 1;
@@ -22,39 +25,29 @@ struct Leg {
     goal: u16,
 }
 
-#[allow(clippy::too_many_arguments)]
-pub fn way(
-    across: u64,
-    down: u64,
-    walls: &[u8],
-    bays: &[u16],
-    shuttle: u64,
-    from: u16,
-    row: &[u16],
-    route: &mut [u16],
-) -> u64 {
-    if !field_fits(across, down, walls, bays) {
-        return 17;
-    }
-    if shuttle >= bays.len() as u64 {
-        return 19;
-    }
-    let own = bays[shuttle as usize];
-    let inside = row.iter().all(|&square| usize::from(square) < walls.len());
-    let free = walls.get(usize::from(from)).is_some_and(|&mark| mark == 0);
-    let may_start = free && (from == own || !bays.contains(&from));
-    if row.len() > 8 || route.len() != MOST_LEFT || !inside || !may_start {
-        return 21;
-    }
-    let floor = Floor { across: across as u16, squares: walls.len() as u16 };
-    let ground = ground(walls, bays);
-    let mut made = [0; MOST_LEFT];
-    match legs(floor, &ground, own, from, row, &mut made) {
-        Some(length) => {
-            route[..length].copy_from_slice(&made[..length]);
-            ((length as u64) << 8) | 2
+impl Ways for Plain {
+    fn way(&mut self, field: FieldNumbers, asked: AskedNumbers, route: &mut [u16]) -> Answer<Option<usize>> {
+        check_field(field)?;
+        let FieldNumbers { across, walls, bays, .. } = field;
+        let AskedNumbers { shuttle, from, row } = asked;
+        if shuttle >= bays.len() as u64 {
+            return Err(Refusal::Event);
         }
-        None => 1,
+        let own = bays[shuttle as usize];
+        let inside = row.iter().all(|&square| usize::from(square) < walls.len());
+        let free = walls.get(usize::from(from)).is_some_and(|&mark| mark == 0);
+        let may_start = free && (from == own || !bays.contains(&from));
+        if row.len() > MOST_ASKED || route.len() != MOST_LEFT || !inside || !may_start {
+            return Err(Refusal::Way);
+        }
+        let floor = Floor { across: across as u16, squares: walls.len() as u16 };
+        let ground = ground(walls, bays);
+        let mut made = [0; MOST_LEFT];
+        let length = legs(floor, &ground, own, from, row, &mut made);
+        if let Some(length) = length {
+            route[..length].copy_from_slice(&made[..length]);
+        }
+        Ok(length)
     }
 }
 
@@ -71,7 +64,7 @@ fn ground(walls: &[u8], bays: &[u16]) -> Table {
 }
 
 fn legs(floor: Floor, ground: &Table, own: u16, from: u16, row: &[u16], made: &mut [u16; MOST_LEFT]) -> Option<usize> {
-    let mut goals = [own; 9];
+    let mut goals = [own; MOST_ASKED + 1];
     goals[..row.len()].copy_from_slice(row);
     let goals = &goals[..=row.len()];
     let (mut start, mut length) = (from, 0);

@@ -1,6 +1,7 @@
 //! Rules of which steps may be made, to compare ours with. Only ours is for use.
 
-use crate::plain::{Fleet, PER_SHUTTLE, PLACES, is_granted};
+use crate::plain::{Fleet, is_granted};
+use shared::memory::{PLACES, part_of};
 
 #[derive(Clone, Copy, Debug, PartialEq, Eq)]
 pub enum Rule {
@@ -36,7 +37,7 @@ impl Rule {
             return false;
         }
         let leaves = fleet[i].square == bays[i];
-        let next = memory[PER_SHUTTLE * i + PLACES];
+        let next = part_of(memory, i)[PLACES];
         match self {
             Rule::Ours => is_granted(fleet, bays.len(), i, memory),
             Rule::OneAtATime => !leaves || others().all(|j| !is_under_way(bays, fleet, j)),
@@ -55,7 +56,7 @@ pub fn is_under_way(bays: &[u16], fleet: &Fleet, shuttle: usize) -> bool {
 }
 
 fn left<'a>(memory: &'a [u16], fleet: &Fleet, shuttle: usize) -> &'a [u16] {
-    &memory[PER_SHUTTLE * shuttle + PLACES..][..usize::from(fleet[shuttle].length)]
+    &part_of(memory, shuttle)[PLACES..][..usize::from(fleet[shuttle].length)]
 }
 
 /// Whether a shuttle that is under way holds the square or needs it again.

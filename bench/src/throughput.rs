@@ -1,9 +1,9 @@
 //! What the rule is worth in a hall: nights of random orders, driven by different rules on the same orders.
 
-use crate::plain::{self, PER_SHUTTLE};
-use crate::plain_tick;
 use crate::rules::{self, Rule};
 use crate::warehouse::{Warehouse, take_order};
+use crate::{plain, plain_tick};
+use shared::memory::{LENGTH, MARK, PER_SHUTTLE};
 
 /// Ticks in a night.
 const TICKS: usize = 8000;
@@ -98,7 +98,7 @@ impl Night {
 }
 
 fn is_idle(part: &[u16]) -> bool {
-    part[1] == 0 && part[3] == 0
+    part[MARK] == 0 && part[LENGTH] == 0
 }
 
 pub fn print(lines: &[Line]) {

@@ -2,7 +2,10 @@
 //! four squares of a route at a time without index checks, bays as a set of bits, and no division for each step of a
 //! new route.
 
-use crate::plain::{MOST_LEFT, PER_SHUTTLE, PLACES, all_taken_out, event_fits, field_fits};
+use crate::plain::{Plain, all_taken_out, check_event, check_field};
+use shared::answer::{Answer, Refusal};
+use shared::call::{Entry, EventNumbers, FieldNumbers, ORDER, STEP};
+use shared::memory::{BEHIND, LENGTH, MARK, MOST_LEFT, PER_SHUTTLE, PLACES, SQUARE, part_of, part_of_mut};
 use std::cell::RefCell;
 
 thread_local! {
@@ -10,61 +13,57 @@ thread_local! {
     static STANDING: RefCell<[u16; 4096]> = const { RefCell::new([0; 4096]) };
 }
 
-#[allow(clippy::too_many_arguments)]
-pub fn happen(
-    across: u64,
-    down: u64,
-    walls: &[u8],
-    bays: &[u16],
-    memory: &mut [u16],
-    kind: u64,
-    shuttle: u64,
-    route: &[u16],
-) -> u64 {
-    if !field_fits(across, down, walls, bays) {
-        return 17;
+#[derive(Clone, Copy, Default)]
+pub struct Tuned;
+
+impl Entry for Tuned {
+    fn happen(&mut self, field: FieldNumbers, memory: &mut [u16], event: EventNumbers) -> Answer<bool> {
+        check_field(field)?;
+        let mut parts = memory.chunks_exact(PER_SHUTTLE);
+        let (squares, shuttles) = (field.walls.len(), field.bays.len());
+        if memory.len() != PER_SHUTTLE * shuttles || !parts.all(|part| part_fits(squares, part)) {
+            return Err(Refusal::Memory);
+        }
+        check_event(field, event)?;
+        let i = event.shuttle as usize;
+        Ok(match event.kind {
+            ORDER => order(field, i, part_of_mut(memory, i), event.route),
+            STEP => step(i, memory),
+            _ => arrive(part_of_mut(memory, i)),
+        })
     }
-    let mut parts = memory.chunks_exact(PER_SHUTTLE);
-    if memory.len() != PER_SHUTTLE * bays.len() || !parts.all(|part| part_fits(walls.len(), part)) {
-        return 18;
+
+    /// The start is not measured.
+    fn start(&mut self, field: FieldNumbers, memory: &mut [u16]) -> Answer<()> {
+        Plain.start(field, memory)
     }
-    if !event_fits(kind, shuttle, bays.len(), route) {
-        return 19;
-    }
-    let i = shuttle as usize;
-    let happened = match kind {
-        0 => order(across as u16, walls, bays, i, memory, route),
-        1 => step(i, memory),
-        _ => arrive(&mut memory[PER_SHUTTLE * i..][..PER_SHUTTLE]),
-    };
-    u64::from(!happened)
 }
 
 /// What is above the last square is collected by subtraction that stops at 0, which is one instruction for eight
 /// numbers where the greater of two is not.
 fn part_fits(squares: usize, part: &[u16]) -> bool {
-    let length = usize::from(part[3]);
-    if part[1] > 1 || length > MOST_LEFT {
+    let length = usize::from(part[LENGTH]);
+    if part[MARK] > 1 || length > MOST_LEFT {
         return false;
     }
     let last = (squares - 1) as u16;
     let above = |square: u16| square.saturating_sub(last);
     let left = &part[PLACES..PLACES + length];
-    left.iter().fold(above(part[0]) | above(part[2]), |all, &square| all | above(square)) == 0
+    left.iter().fold(above(part[SQUARE]) | above(part[BEHIND]), |all, &square| all | above(square)) == 0
 }
 
-fn order(across: u16, walls: &[u8], bays: &[u16], i: usize, memory: &mut [u16], route: &[u16]) -> bool {
-    let part = &mut memory[PER_SHUTTLE * i..][..PER_SHUTTLE];
-    if part[1] == 1 || part[3] > 0 || !is_route(across, walls, bays, bays[i], part[0], route) {
+fn order(field: FieldNumbers, i: usize, part: &mut [u16], route: &[u16]) -> bool {
+    if part[MARK] == 1 || part[LENGTH] > 0 || !is_route(field, field.bays[i], part[SQUARE], route) {
         return false;
     }
     part[PLACES..PLACES + route.len()].copy_from_slice(route);
-    part[2] = part[0];
-    part[3] = route.len() as u16;
+    part[BEHIND] = part[SQUARE];
+    part[LENGTH] = route.len() as u16;
     true
 }
 
-fn is_route(across: u16, walls: &[u8], bays: &[u16], own: u16, from: u16, route: &[u16]) -> bool {
+fn is_route(FieldNumbers { across, walls, bays, .. }: FieldNumbers, own: u16, from: u16, route: &[u16]) -> bool {
+    let across = across as u16;
     let mut closed = [0u64; 64];
     for &bay in bays {
         closed[usize::from(bay) / 64] |= 1 << (bay % 64);
@@ -91,12 +90,12 @@ fn is_route(across: u16, walls: &[u8], bays: &[u16], own: u16, from: u16, route:
 }
 
 fn step(i: usize, memory: &mut [u16]) -> bool {
-    let part = &memory[PER_SHUTTLE * i..][..PER_SHUTTLE];
-    let (square, length, next) = (part[0], usize::from(part[3]), part[PLACES]);
-    if part[1] == 1 || length == 0 {
+    let part = part_of(memory, i);
+    let (square, length, next) = (part[SQUARE], usize::from(part[LENGTH]), part[PLACES]);
+    if part[MARK] == 1 || length == 0 {
         return false;
     }
-    let holds = |part: &[u16]| part[0] == next || (part[1] == 1 && part[2] == next);
+    let holds = |part: &[u16]| part[SQUARE] == next || (part[MARK] == 1 && part[BEHIND] == next);
     let others = memory.chunks_exact(PER_SHUTTLE).enumerate().filter(|(j, _)| *j != i);
     if others.fold(false, |held, (_, part)| held | holds(part)) {
         return false;
@@ -104,7 +103,7 @@ fn step(i: usize, memory: &mut [u16]) -> bool {
     if !STANDING.with_borrow_mut(|standing| safe(standing, i, next, memory)) {
         return false;
     }
-    let part = &mut memory[PER_SHUTTLE * i..][..PER_SHUTTLE];
+    let part = part_of_mut(memory, i);
     part[..PLACES].copy_from_slice(&[next, 1, square, length as u16 - 1]);
     part.copy_within(PLACES + 1..PLACES + length, PLACES);
     true
@@ -112,13 +111,13 @@ fn step(i: usize, memory: &mut [u16]) -> bool {
 
 fn safe(standing: &mut [u16; 4096], stepped: usize, next: u16, memory: &[u16]) -> bool {
     let parts = memory.chunks_exact(PER_SHUTTLE);
-    let square = |i: usize, part: &[u16]| usize::from(if i == stepped { next } else { part[0] }) & 4095;
+    let square = |i: usize, part: &[u16]| usize::from(if i == stepped { next } else { part[SQUARE] }) & 4095;
     for (i, part) in parts.clone().enumerate() {
         standing[square(i, part)] |= 1 << i;
     }
     let mut blockers = [0u16; 16];
     for (i, part) in parts.clone().enumerate().take(16) {
-        let left = &part[PLACES..PLACES + usize::from(part[3])];
+        let left = &part[PLACES..PLACES + usize::from(part[LENGTH])];
         let left = if i == stepped { &left[1..] } else { left };
         blockers[i] = met(standing, left) & !(1 << i);
     }
@@ -144,10 +143,10 @@ fn met(standing: &[u16; 4096], left: &[u16]) -> u16 {
 }
 
 fn arrive(part: &mut [u16]) -> bool {
-    let moves = part[1] == 1;
+    let moves = part[MARK] == 1;
     if moves {
-        part[1] = 0;
-        part[2] = part[0];
+        part[MARK] = 0;
+        part[BEHIND] = part[SQUARE];
     }
     moves
 }

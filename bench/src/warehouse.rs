@@ -1,8 +1,9 @@
 //! Halls as they are in warehouses, and random orders in them.
 
-use crate::plain::{MOST_LEFT, PER_SHUTTLE, PLACES};
-use crate::plain_way;
-use crate::random::Random;
+use crate::plain::Plain;
+use shared::call::{AskedNumbers, Entry, FieldNumbers, Ways};
+use shared::memory::{LENGTH, MOST_LEFT, PER_SHUTTLE, PLACES};
+use shared::random::Random;
 
 const ACROSS: usize = 19;
 const DOWN: usize = 14;
@@ -18,9 +19,6 @@ pub struct Warehouse {
 }
 
 impl Warehouse {
-    pub const ACROSS: u64 = ACROSS as u64;
-    pub const DOWN: u64 = DOWN as u64;
-
     /// Two blocks of racks with aisles one square wide, and between them and at both ends two rows to cross.
     pub fn racks(shuttles: usize) -> Warehouse {
         Warehouse::new("racks", shuttles, |row, column| RACK_ROWS.contains(&row) && !column.is_multiple_of(3))
@@ -57,25 +55,25 @@ impl Warehouse {
         let mut random = Random::new((night << 32) ^ ((shuttle as u64) << 24) ^ number as u64);
         let row: Vec<u16> = (0..random.between(1, 3)).map(|_| self.goods[random.below(self.goods.len())]).collect();
         let mut route = [0; MOST_LEFT];
-        let (from, shuttle) = (self.bays[shuttle], shuttle as u64);
-        let (across, down) = (Warehouse::ACROSS, Warehouse::DOWN);
-        let answer = plain_way::way(across, down, &self.walls, &self.bays, shuttle, from, &row, &mut route);
-        assert_eq!(answer & 0xff, 2, "every square of the warehouse is within reach");
-        route[..(answer >> 8) as usize].to_vec()
+        let asked = AskedNumbers { shuttle: shuttle as u64, from: self.bays[shuttle], row: &row };
+        let length = Plain.way(self.field(), asked, &mut route).expect("an order asks for what may be asked for");
+        route[..length.expect("every square of the warehouse is within reach")].to_vec()
+    }
+
+    pub fn field(&self) -> FieldNumbers<'_> {
+        FieldNumbers { across: ACROSS as u64, down: DOWN as u64, walls: &self.walls, bays: &self.bays }
     }
 
     /// Every shuttle in its bay with nothing left.
     pub fn start(&self) -> Vec<u16> {
         let mut memory = vec![0; PER_SHUTTLE * self.bays.len()];
-        for (part, &bay) in memory.chunks_exact_mut(PER_SHUTTLE).zip(&self.bays) {
-            part[..PLACES].copy_from_slice(&[bay, 0, bay, 0]);
-        }
+        Plain.start(self.field(), &mut memory).expect("a warehouse is a field, and its memory as long as it should be");
         memory
     }
 }
 
 /// Gives a shuttle in its bay a route.
 pub fn take_order(part: &mut [u16], route: &[u16]) {
-    part[3] = route.len() as u16;
+    part[LENGTH] = route.len() as u16;
     part[PLACES..PLACES + route.len()].copy_from_slice(route);
 }

@@ -1,79 +1,18 @@
 //! Ways that are measured, all on the largest field but one.
 
 use crate::case::{Case, Contender};
-use crate::maze;
-use crate::plain::MOST_LEFT;
-use crate::plain_way;
-use crate::random::Random;
-use std::slice::{from_raw_parts, from_raw_parts_mut};
+use crate::paths::{distances, path};
+use crate::plain::Plain;
+use shared::call::{AskedNumbers, FieldNumbers};
+use shared::memory::MOST_LEFT;
+use shared::random::Random;
+use shared::{function, maze};
 
-pub type WayFunction = unsafe extern "C" fn(
-    across: u64,
-    down: u64,
-    walls: *const u8,
-    walls_len: usize,
-    bays: *const u16,
-    bays_len: usize,
-    shuttle: u64,
-    from: u16,
-    row: *const u16,
-    row_len: usize,
-    route: *mut u16,
-    route_len: usize,
-) -> u64;
-
-unsafe extern "C" fn plain(
-    across: u64,
-    down: u64,
-    walls: *const u8,
-    walls_len: usize,
-    bays: *const u16,
-    bays_len: usize,
-    shuttle: u64,
-    from: u16,
-    row: *const u16,
-    row_len: usize,
-    route: *mut u16,
-    route_len: usize,
-) -> u64 {
-    // SAFETY: the caller passes the pointers and lengths of slices that don't overlap.
-    let (walls, bays, row, route) = unsafe {
-        (
-            from_raw_parts(walls, walls_len),
-            from_raw_parts(bays, bays_len),
-            from_raw_parts(row, row_len),
-            from_raw_parts_mut(route, route_len),
-        )
-    };
-    plain_way::way(across, down, walls, bays, shuttle, from, row, route)
-}
-
-#[cfg(feature = "way")]
-mod library {
-    #[link(name = "capi", kind = "static")]
-    unsafe extern "C" {
-        pub fn way(
-            across: u64,
-            down: u64,
-            walls: *const u8,
-            walls_len: usize,
-            bays: *const u16,
-            bays_len: usize,
-            shuttle: u64,
-            from: u16,
-            row: *const u16,
-            row_len: usize,
-            route: *mut u16,
-            route_len: usize,
-        ) -> u64;
-    }
-}
-
-pub fn contenders() -> Vec<Contender<WayFunction>> {
+pub fn contenders() -> Vec<Contender<function::Way>> {
     vec![
-        Contender { name: "plain", function: plain },
+        Contender { name: "plain", function: function::Way::by::<Plain>() },
         #[cfg(feature = "way")]
-        Contender { name: "library", function: library::way },
+        Contender { name: "library", function: function::Way::LIBRARY },
     ]
 }
 
@@ -84,19 +23,20 @@ pub struct Way {
     walls: Vec<u8>,
     bays: Vec<u16>,
     row: Vec<u16>,
-    answer: u64,
+    /// The length of the route, if there is one.
+    length: Option<usize>,
 }
 
 impl Case for Way {
-    type Function = WayFunction;
+    type Function = function::Way;
     type Lent = [u16; MOST_LEFT];
 
     fn name(&self) -> &str {
         self.name
     }
 
-    fn answer(&self) -> u64 {
-        self.answer
+    fn told(&self) -> Option<usize> {
+        self.length
     }
 
     fn lent(&self) -> [u16; MOST_LEFT] {
@@ -106,42 +46,21 @@ impl Case for Way {
     /// Every call writes the same places, whatever stood there.
     fn put_back(&self, _: &mut [u16; MOST_LEFT]) {}
 
-    fn call(&self, way: WayFunction, route: &mut [u16; MOST_LEFT]) -> u64 {
-        let down = self.walls.len() as u64 / self.across;
-        // SAFETY: each pointer and length are those of one slice, and only the route is written.
-        unsafe {
-            way(
-                self.across,
-                down,
-                self.walls.as_ptr(),
-                self.walls.len(),
-                self.bays.as_ptr(),
-                self.bays.len(),
-                0,
-                self.bays[0],
-                self.row.as_ptr(),
-                self.row.len(),
-                route.as_mut_ptr(),
-                route.len(),
-            )
-        }
+    fn call(&self, way: function::Way, route: &mut [u16; MOST_LEFT]) -> u64 {
+        let Way { across, walls, bays, row, .. } = self;
+        let field = FieldNumbers { across: *across, down: walls.len() as u64 / across, walls, bays };
+        way.call(field, AskedNumbers { shuttle: 0, from: bays[0], row }, route)
     }
 }
-
-const fn found(length: u64) -> u64 {
-    length << 8 | 2
-}
-
-const NONE: u64 = 1;
 
 fn square(column: usize, row: usize) -> u16 {
     (64 * row + column) as u16
 }
 
 /// Sixteen bays: the first where it is told, the others on the squares given.
-fn on_floor(name: &'static str, bay: u16, row: Vec<u16>, answer: u64) -> Way {
+fn on_floor(name: &'static str, bay: u16, row: Vec<u16>, length: Option<usize>) -> Way {
     let others = (0..15).map(|i| square(4 * i + 2, 40));
-    Way { name, across: 64, walls: vec![0; 4096], bays: [bay].into_iter().chain(others).collect(), row, answer }
+    Way { name, across: 64, walls: vec![0; 4096], bays: [bay].into_iter().chain(others).collect(), row, length }
 }
 
 /// Eight squares along the edge, as far apart as a route all the way round allows.
@@ -157,7 +76,7 @@ fn around_the_edge() -> Vec<u16> {
 
 /// The floor without way to the bay, which is searched to the end.
 fn walled_in() -> Way {
-    let mut case = on_floor("open floor, bay walled in", square(0, 0), vec![square(63, 63)], NONE);
+    let mut case = on_floor("open floor, bay walled in", square(0, 0), vec![square(63, 63)], None);
     case.walls[1] = 1;
     case.walls[64] = 1;
     case
@@ -165,14 +84,15 @@ fn walled_in() -> Way {
 
 /// In a maze a bay in a corner, and squares on one corridor from it, the last as far as a route there and back allows.
 fn in_maze(name: &'static str, openings: usize, squares: usize) -> Way {
-    let walls = maze::walls(&mut Random::new(7), 64, 64, openings);
-    let distances = maze::distances(&walls, 64, 0);
+    let mut random = Random::new(7);
+    let mut walls = maze::walls(&mut random, 64, 64);
+    maze::open(&mut random, &mut walls, openings);
+    let distances = distances(&walls, 64, 0);
     let far = (0..4096).filter(|&square| distances[square].is_some_and(|steps| steps <= 128));
     let far = far.max_by_key(|&square| distances[square]).expect("the bay is at distance 0");
-    let path = maze::path(&distances, 64, far);
+    let path = path(&distances, 64, far);
     let row: Vec<u16> = (1..=squares).map(|k| path[k * (path.len() - 1) / squares] as u16).collect();
-    let answer = found(2 * (path.len() as u64 - 1));
-    Way { name, across: 64, walls, bays: vec![0], row, answer }
+    Way { name, across: 64, walls, bays: vec![0], row, length: Some(2 * (path.len() - 1)) }
 }
 
 pub fn all() -> Vec<Way> {
@@ -180,10 +100,10 @@ pub fn all() -> Vec<Way> {
     let corners = [square(63, 63), corner + 1, square(63, 63), corner + 1];
     let apart = corners.into_iter().cycle().take(8).collect();
     vec![
-        on_floor("open floor, to the far corner", corner, vec![square(63, 63)], found(252)),
-        on_floor("open floor, eight squares around the edge", corner, around_the_edge(), found(252)),
-        on_floor("open floor, eight squares too far apart", corner, apart, NONE),
-        on_floor("open floor, eight squares nearby", corner, (1..=8).map(|k| square(k, k)).collect(), found(32)),
+        on_floor("open floor, to the far corner", corner, vec![square(63, 63)], Some(252)),
+        on_floor("open floor, eight squares around the edge", corner, around_the_edge(), Some(252)),
+        on_floor("open floor, eight squares too far apart", corner, apart, None),
+        on_floor("open floor, eight squares nearby", corner, (1..=8).map(|k| square(k, k)).collect(), Some(32)),
         walled_in(),
         in_maze("maze, one square", 0, 1),
         in_maze("maze, eight squares", 0, 8),
@@ -195,7 +115,7 @@ pub fn all() -> Vec<Way> {
             walls: vec![0; 8],
             bays: vec![0, 3],
             row: vec![6],
-            answer: found(6),
+            length: Some(6),
         },
     ]
 }

@@ -1,10 +1,14 @@
 //! Every refusal at its boundary. A good call is changed in one place, or in two at once, and the answer that each
 //! change asks for is written beside it, so that the reference is tested here as well.
 
-use crate::changes::{self, Change};
-use crate::entry::{ARRIVE, EventNumbers, LENGTH, ORDER, PER_SHUTTLE, PLACES, STEP, part_of_mut, refused};
+use crate::change::{self, Change};
+use crate::changes;
 use crate::hall::{Difference, Hall, Pair};
 use crate::plan::Plan;
+use shared::answer::{Answer, Refusal};
+use shared::call::{ARRIVE, EventNumbers, ORDER, STEP};
+use shared::memory::{LENGTH, PER_SHUTTLE, PLACES, part_of_mut};
+use std::fmt::Debug;
 
 /// A call in full, to be changed.
 #[derive(Clone)]
@@ -79,49 +83,36 @@ pub fn all(pair: &mut Pair) -> Result<(), Difference> {
             for kind in [ORDER, STEP, ARRIVE] {
                 let good = Call::good(size, left, kind);
                 check(pair, &good, &[])?;
-                for change in changes::ALL {
-                    check(pair, &good, &[change])?;
-                }
+                changes::ALL.iter().try_for_each(|change| check(pair, &good, &[change]))?;
             }
         }
     }
-    pairs(pair)
-}
-
-/// Of two refusals that apply, the smaller number is answered.
-fn pairs(pair: &mut Pair) -> Result<(), Difference> {
     for size in [size(5, 5, 4, 1), size(64, 64, 16, 0)] {
         let good = Call::good(size, 256, STEP);
-        for (place, one) in changes::ALL.iter().enumerate().filter(|(_, one)| one.refusal > 0) {
-            for other in changes::ALL[place + 1..].iter().filter(|other| other.refusal > one.refusal) {
-                check(pair, &good, &[one, other])?;
-            }
-        }
+        change::pairs(changes::ALL).try_for_each(|both| check(pair, &good, &both))?;
     }
     Ok(())
 }
 
 /// Makes the changes and both calls. A change that this call leaves no room for makes no case.
-fn check(pair: &mut Pair, good: &Call, changes: &[&Change]) -> Result<(), Difference> {
-    let mut call = good.clone();
-    // The later check's change comes first: one of the field may alter how much room there is.
-    if !changes.iter().rev().all(|change| (change.make)(&mut call)) {
+fn check(pair: &mut Pair, good: &Call, changes: &[&Change<Call>]) -> Result<(), Difference> {
+    let Some((call, changed, refusal)) = change::changed(good, changes) else {
         return Ok(());
-    }
-    let names: Vec<&str> = changes.iter().map(|change| change.name).collect();
-    let told = |fault: Difference| format!("changed: {names:?}: {fault}");
-    let refusal = changes.iter().map(|change| change.refusal).filter(|&number| number > 0).min();
+    };
+    let told = |fault: Difference| format!("{changed}: {fault}");
     let mut hall = Hall::new(call.plan.clone(), call.memory.clone());
     let answer = hall.happen(pair, call.event()).map_err(told)?;
     right(answer, refusal).map_err(told)?;
     let mut hall = Hall::new(call.plan.clone(), call.memory.clone());
     let answer = hall.start(pair).map_err(told)?;
-    let looked_at = changes.iter().filter(|change| change.refusal == 1 || change.of_length);
-    right(answer, looked_at.map(|change| change.refusal).min()).map_err(told)
+    let looked_at = changes.iter().filter(|change| change.refusal == Some(Refusal::Field) || change.of_length);
+    right(answer, looked_at.filter_map(|change| change.refusal).min()).map_err(told)
 }
 
 /// Whether the answer is the refusal that the changes ask for, or none if they ask for none.
-pub fn right(answer: u64, refusal: Option<u64>) -> Result<(), Difference> {
-    let expected = refusal.map_or(answer & 0xff < 16, |number| answer == refused(number));
-    if expected { Ok(()) } else { Err(format!("both answer {answer}, but by the rules the refusal is {refusal:?}")) }
+pub fn right<T: Debug>(answer: Answer<T>, refusal: Option<Refusal>) -> Result<(), Difference> {
+    if answer.as_ref().err() == refusal.as_ref() {
+        return Ok(());
+    }
+    Err(format!("both answer {answer:?}, but by the rules the refusal is {refusal:?}"))
 }

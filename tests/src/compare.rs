@@ -1,15 +1,17 @@
 //! The groups of cases in which an entry is compared with the reference.
 
 use crate::boundaries;
-use crate::entry::Entry;
 use crate::examples;
 use crate::hall::{Difference, Pair};
 use crate::playing;
-use crate::random::Random;
 use crate::reference::Outcome;
 use crate::report::Group;
 use crate::scrambled;
 use crate::tally::Tally;
+use shared::call::Entry;
+use shared::random::Random;
+use std::fmt::{self, Display};
+use std::str::FromStr;
 
 #[derive(Clone, Copy, Debug, PartialEq, Eq)]
 pub enum Kind {
@@ -21,18 +23,24 @@ pub enum Kind {
 
 impl Kind {
     pub const ALL: [Kind; 4] = [Kind::Examples, Kind::Boundaries, Kind::Playing, Kind::Scrambled];
+}
 
-    pub fn name(self) -> &'static str {
-        match self {
+impl Display for Kind {
+    fn fmt(&self, f: &mut fmt::Formatter) -> fmt::Result {
+        f.write_str(match self {
             Kind::Examples => "examples",
             Kind::Boundaries => "boundaries",
             Kind::Playing => "playing",
             Kind::Scrambled => "scrambled",
-        }
+        })
     }
+}
 
-    pub fn named(name: &str) -> Option<Kind> {
-        Kind::ALL.into_iter().find(|kind| kind.name() == name)
+impl FromStr for Kind {
+    type Err = String;
+
+    fn from_str(name: &str) -> Result<Kind, String> {
+        Kind::ALL.into_iter().find(|kind| kind.to_string() == name).ok_or(format!("no kind {name}"))
     }
 }
 
@@ -75,7 +83,7 @@ fn halls(kind: Kind, pair: &mut Pair, extent: Extent, hall: HallCase) -> Result<
         }
         let mut random = Random::for_case(extent.seed, 2 * number + u64::from(kind == Kind::Playing));
         pair.reference.safety.random = Random::new(random.number());
-        let again = format!("again with --seed {} --kind {} --hall {number}", extent.seed, kind.name());
+        let again = format!("again with --seed {} --kind {kind} --hall {number}", extent.seed);
         hall(&mut random, pair).map_err(|fault| format!("hall {number}: {fault}\n{again}"))?;
     }
     Ok(())
@@ -98,7 +106,7 @@ pub fn of_kind(kind: Kind, run: &Run) -> Group {
         run.tally.halls,
         run.tally.tell()
     );
-    Group { name: kind.name().to_string(), done, failure: run.difference.clone() }
+    Group { name: kind.to_string(), done, failure: run.difference.clone() }
 }
 
 fn invariants(runs: &[(Kind, Run)]) -> Group {

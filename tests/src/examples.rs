@@ -1,10 +1,12 @@
 //! Small halls whose answers were worked out by hand.
 
-use crate::entry::{ARRIVE, EventNumbers, HAPPENED, NOT, ORDER, PER_SHUTTLE, STEP, part_of_mut, refused};
 use crate::hall::{Difference, Hall, Pair};
 use crate::plan::Plan;
 use crate::reference::fleet::{self, Shuttle};
 use crate::reference::safety::{by_all_orders, by_subsets, by_taking_out};
+use shared::answer::{Answer, Refusal};
+use shared::call::{ARRIVE, EventNumbers, ORDER, STEP};
+use shared::memory::{PER_SHUTTLE, part_of_mut};
 
 /// Four across and two down, no walls, shuttle 0's bay 0 and shuttle 1's bay 3.
 fn small() -> Plan {
@@ -58,14 +60,14 @@ fn expect(
     kind: u64,
     shuttle: u64,
     route: &[u16],
-    answer: u64,
+    answer: Answer<bool>,
 ) -> Result<(), Difference> {
     let got = hall.happen(pair, EventNumbers { kind, shuttle, route })?;
     if got == answer {
         return Ok(());
     }
     Err(format!(
-        "both answer {got}, worked out by hand {answer}: event {kind} of {shuttle} {route:?}\n{}",
+        "both answer {got:?}, worked out by hand {answer:?}: event {kind} of {shuttle} {route:?}\n{}",
         hall.picture()
     ))
 }
@@ -84,53 +86,48 @@ fn check_row(pair: &mut Pair, row: &Row) -> Result<(), Difference> {
         }
     }
     for i in 0..2 {
-        let answer = if row.granted[i] { HAPPENED } else { NOT };
         let mut hall = Hall::new(small(), memory.clone());
-        expect(&mut hall, pair, STEP, i as u64, &[], answer)?;
+        expect(&mut hall, pair, STEP, i as u64, &[], Ok(row.granted[i]))?;
     }
     Ok(())
 }
 
 fn check_route(pair: &mut Pair, route: &[u16], is_one: bool) -> Result<(), Difference> {
-    let mut hall = Hall::blank(small());
-    hall.start(pair)?;
-    expect(&mut hall, pair, ORDER, 0, route, if is_one { HAPPENED } else { NOT })
+    let mut hall = Hall::started(small(), pair)?;
+    expect(&mut hall, pair, ORDER, 0, route, Ok(is_one))
 }
 
 /// While a shuttle moves it holds both squares, and the other's route may begin only once the first is on its way
 /// home with nothing but its bay left.
 fn holds_both(pair: &mut Pair) -> Result<(), Difference> {
-    let mut hall = Hall::blank(small());
-    hall.start(pair)?;
-    expect(&mut hall, pair, ORDER, 0, &[1, 2, 1, 0], HAPPENED)?;
-    expect(&mut hall, pair, ORDER, 1, &[2, 1, 2, 3], HAPPENED)?;
+    let mut hall = Hall::started(small(), pair)?;
+    expect(&mut hall, pair, ORDER, 0, &[1, 2, 1, 0], Ok(true))?;
+    expect(&mut hall, pair, ORDER, 1, &[2, 1, 2, 3], Ok(true))?;
     for _ in 0..3 {
-        expect(&mut hall, pair, STEP, 0, &[], HAPPENED)?;
-        expect(&mut hall, pair, STEP, 0, &[], NOT)?;
-        expect(&mut hall, pair, STEP, 1, &[], NOT)?;
-        expect(&mut hall, pair, ARRIVE, 0, &[], HAPPENED)?;
-        expect(&mut hall, pair, ARRIVE, 0, &[], NOT)?;
+        expect(&mut hall, pair, STEP, 0, &[], Ok(true))?;
+        expect(&mut hall, pair, STEP, 0, &[], Ok(false))?;
+        expect(&mut hall, pair, STEP, 1, &[], Ok(false))?;
+        expect(&mut hall, pair, ARRIVE, 0, &[], Ok(true))?;
+        expect(&mut hall, pair, ARRIVE, 0, &[], Ok(false))?;
     }
-    expect(&mut hall, pair, STEP, 1, &[], HAPPENED)
+    expect(&mut hall, pair, STEP, 1, &[], Ok(true))
 }
 
 fn wall_in_the_way(pair: &mut Pair) -> Result<(), Difference> {
     let mut plan = small();
     plan.walls[5] = 1;
-    let mut hall = Hall::blank(plan);
-    hall.start(pair)?;
-    expect(&mut hall, pair, ORDER, 0, &[4, 5, 4, 0], NOT)?;
-    expect(&mut hall, pair, ORDER, 0, &[1, 5, 1, 0], NOT)?;
-    expect(&mut hall, pair, ORDER, 0, &[1, 2, 6, 2, 1, 0], HAPPENED)
+    let mut hall = Hall::started(plan, pair)?;
+    expect(&mut hall, pair, ORDER, 0, &[4, 5, 4, 0], Ok(false))?;
+    expect(&mut hall, pair, ORDER, 0, &[1, 5, 1, 0], Ok(false))?;
+    expect(&mut hall, pair, ORDER, 0, &[1, 2, 6, 2, 1, 0], Ok(true))
 }
 
 /// The last square of a row and the first of the next have numbers that follow each other, but aren't beside.
 fn row_ends(pair: &mut Pair) -> Result<(), Difference> {
-    let mut hall = Hall::blank(Plan { bays: vec![0, 7], ..small() });
-    hall.start(pair)?;
-    expect(&mut hall, pair, ORDER, 0, &[1, 2, 3, 4, 0], NOT)?;
-    expect(&mut hall, pair, ORDER, 0, &[4, 3, 2, 1, 0], NOT)?;
-    expect(&mut hall, pair, ORDER, 0, &[1, 2, 3, 2, 6, 5, 4, 0], HAPPENED)
+    let mut hall = Hall::started(Plan { bays: vec![0, 7], ..small() }, pair)?;
+    expect(&mut hall, pair, ORDER, 0, &[1, 2, 3, 4, 0], Ok(false))?;
+    expect(&mut hall, pair, ORDER, 0, &[4, 3, 2, 1, 0], Ok(false))?;
+    expect(&mut hall, pair, ORDER, 0, &[1, 2, 3, 2, 6, 5, 4, 0], Ok(true))
 }
 
 /// Bays around a block of two by two squares. Each shuttle wants the square that the next one enters; the fourth
@@ -138,28 +135,24 @@ fn row_ends(pair: &mut Pair) -> Result<(), Difference> {
 fn ring_of_four(pair: &mut Pair) -> Result<(), Difference> {
     let walls = b"#.## #... ...# ##.#".iter().filter(|&&sign| sign != b' ');
     let walls = walls.map(|&sign| u8::from(sign == b'#')).collect();
-    let mut hall = Hall::blank(Plan { across: 4, down: 4, walls, bays: vec![1, 7, 14, 8] });
-    hall.start(pair)?;
+    let mut hall = Hall::started(Plan { across: 4, down: 4, walls, bays: vec![1, 7, 14, 8] }, pair)?;
     let routes: [[u16; 4]; 4] = [[5, 6, 5, 1], [6, 10, 6, 7], [10, 9, 10, 14], [9, 5, 9, 8]];
     for (i, route) in (0..).zip(&routes) {
-        expect(&mut hall, pair, ORDER, i, route, HAPPENED)?;
+        expect(&mut hall, pair, ORDER, i, route, Ok(true))?;
     }
     for i in 0..3 {
-        expect(&mut hall, pair, STEP, i, &[], HAPPENED)?;
-        expect(&mut hall, pair, ARRIVE, i, &[], HAPPENED)?;
+        expect(&mut hall, pair, STEP, i, &[], Ok(true))?;
+        expect(&mut hall, pair, ARRIVE, i, &[], Ok(true))?;
     }
-    expect(&mut hall, pair, STEP, 3, &[], NOT)?;
-    expect(&mut hall, pair, STEP, 0, &[], NOT)?;
-    expect(&mut hall, pair, STEP, 2, &[], HAPPENED)
+    expect(&mut hall, pair, STEP, 3, &[], Ok(false))?;
+    expect(&mut hall, pair, STEP, 0, &[], Ok(false))?;
+    expect(&mut hall, pair, STEP, 2, &[], Ok(true))
 }
 
 fn no_shuttles(pair: &mut Pair) -> Result<(), Difference> {
-    let mut hall = Hall::blank(Plan { bays: Vec::new(), ..small() });
-    if hall.start(pair)? != HAPPENED {
-        return Err("a hall without shuttles doesn't start".to_string());
-    }
+    let mut hall = Hall::started(Plan { bays: Vec::new(), ..small() }, pair)?;
     for kind in [ORDER, STEP, ARRIVE] {
-        expect(&mut hall, pair, kind, 0, &[], refused(3))?;
+        expect(&mut hall, pair, kind, 0, &[], Err(Refusal::Event))?;
     }
     Ok(())
 }

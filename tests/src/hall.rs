@@ -1,11 +1,14 @@
 //! One hall whose calls are made twice, of the reference and of the entry under test, and compared.
 
-use crate::entry::{Entry, EventNumbers, FieldNumbers, MOST_LEFT, PER_SHUTTLE, PLACES};
-use crate::lent::Lent;
+use crate::lent::{Lent, LentField};
 use crate::plan::Plan;
-use crate::random::Random;
 use crate::reference::Reference;
 use crate::tally::Tally;
+use shared::answer::Answer;
+use shared::call::{Entry, EventNumbers};
+use shared::memory::{MOST_LEFT, PER_SHUTTLE, PLACES};
+use shared::random::Random;
+use std::fmt::Debug;
 
 /// What differs, in words.
 pub type Difference = String;
@@ -25,8 +28,7 @@ impl<'a> Pair<'a> {
 
 pub struct Hall {
     pub plan: Plan,
-    walls: Lent<u8>,
-    bays: Lent<u16>,
+    field: LentField,
     memory: Lent<u16>,
     route: Lent<u16>,
     expected: Vec<u16>,
@@ -34,10 +36,8 @@ pub struct Hall {
 
 impl Hall {
     pub fn new(plan: Plan, memory: Vec<u16>) -> Hall {
-        // Guards that would be taken for a wall, a bay or a square of this field would hide a read outside.
         Hall {
-            walls: Lent::new(&plan.walls, 0xee),
-            bays: Lent::new(&plan.bays, 0xeee1),
+            field: LentField::new(&plan),
             memory: Lent::new(&memory, 0xeee2),
             route: Lent::new(&[], 0xeee3),
             plan,
@@ -51,6 +51,14 @@ impl Hall {
         Hall::new(plan, memory)
     }
 
+    pub fn started(plan: Plan, pair: &mut Pair) -> Result<Hall, Difference> {
+        let mut hall = Hall::blank(plan);
+        match hall.start(pair)? {
+            Ok(()) => Ok(hall),
+            Err(refusal) => Err(format!("both refuse to start: {refusal:?}\n{}", hall.picture())),
+        }
+    }
+
     pub fn memory(&self) -> &[u16] {
         &self.expected
     }
@@ -61,32 +69,33 @@ impl Hall {
         self.expected = memory;
     }
 
-    pub fn happen(&mut self, pair: &mut Pair, event: EventNumbers) -> Result<u64, Difference> {
+    pub fn happen(&mut self, pair: &mut Pair, event: EventNumbers) -> Result<Answer<bool>, Difference> {
         self.route.set(event.route);
         let outcome = pair.reference.outcome(self.plan.numbers(), &mut self.expected, event);
         let lent = EventNumbers { route: self.route.content(), ..event };
-        let field = FieldNumbers { walls: self.walls.content(), bays: self.bays.content(), ..self.plan.numbers() };
-        let answer = pair.entry.happen(field, self.memory.content_mut(), lent);
+        let answer = pair.entry.happen(self.field.numbers(&self.plan), self.memory.content_mut(), lent);
         pair.tally.count(outcome);
         let call = |fault: String| format!("event {}, which is {outcome:?}: {fault}", tell_event(event));
         self.compare(answer, outcome.answer(), event.route).map_err(call)
     }
 
-    pub fn start(&mut self, pair: &mut Pair) -> Result<u64, Difference> {
+    pub fn start(&mut self, pair: &mut Pair) -> Result<Answer<()>, Difference> {
         self.route.set(&[]);
         let should = pair.reference.start(self.plan.numbers(), &mut self.expected);
-        let field = FieldNumbers { walls: self.walls.content(), bays: self.bays.content(), ..self.plan.numbers() };
-        let answer = pair.entry.start(field, self.memory.content_mut());
+        let answer = pair.entry.start(self.field.numbers(&self.plan), self.memory.content_mut());
         pair.tally.calls += 1;
         self.compare(answer, should, &[]).map_err(|fault| format!("start: {fault}"))
     }
 
-    fn compare(&self, answer: u64, should: u64, route: &[u16]) -> Result<u64, Difference> {
-        let wrong_answer = (answer != should).then(|| format!("the answer is {answer}, should be {should}"));
-        let fault = wrong_answer
+    fn compare<T: Debug + PartialEq>(
+        &self,
+        answer: Answer<T>,
+        should: Answer<T>,
+        route: &[u16],
+    ) -> Result<Answer<T>, Difference> {
+        let fault = wrong_answer(&answer, &should)
             .or_else(|| self.memory.fault("memory", &self.expected))
-            .or_else(|| self.walls.fault("walls", &self.plan.walls))
-            .or_else(|| self.bays.fault("bays", &self.plan.bays))
+            .or_else(|| self.field.fault(&self.plan))
             .or_else(|| self.route.fault("the route", route));
         match fault {
             Some(fault) => Err(format!("{fault}\nafter it should be:\n{}", self.picture())),
@@ -96,13 +105,13 @@ impl Hall {
 
     /// The field and the shuttles in full, to be read by somebody who looks for the fault.
     pub fn picture(&self) -> String {
-        let Plan { across, down, bays, .. } = &self.plan;
-        let row = |marks: &[u8]| marks.iter().map(|&m| if m == 0 { '.' } else { '#' }).collect::<String>();
-        let width = usize::try_from(*across).ok().filter(|width| (1..=64).contains(width)).unwrap_or(64);
-        let rows: Vec<String> = self.plan.walls.chunks(width).map(row).collect();
         let shuttles: Vec<String> = self.expected.chunks(PER_SHUTTLE).map(tell_shuttle).collect();
-        format!("field {across} x {down}, bays {bays:?}\n{}\n{}", rows.join("\n"), shuttles.join("\n"))
+        format!("{}\n{}", self.plan, shuttles.join("\n"))
     }
+}
+
+pub fn wrong_answer<T: Debug + PartialEq>(answer: &Answer<T>, should: &Answer<T>) -> Option<Difference> {
+    (answer != should).then(|| format!("the answer is {answer:?}, should be {should:?}"))
 }
 
 fn tell_event(event: EventNumbers) -> String {

@@ -1,6 +1,8 @@
 //! Numbers that are lent to a call, with guard numbers before and behind them in the same buffer, so that a write
 //! outside is seen.
 
+use crate::plan::Plan;
+use shared::call::FieldNumbers;
 use std::fmt::Debug;
 
 /// An odd count, so that what is lent is not aligned better than its type asks.
@@ -46,6 +48,27 @@ impl<T: Copy + PartialEq + Debug> Lent<T> {
         }
         let place = content.iter().zip(expected).position(|(is, should)| is != should)?;
         Some(format!("{name} at {place} is {:?}, should be {:?}", content[place], expected[place]))
+    }
+}
+
+/// The walls and bays of a plan.
+pub struct LentField {
+    walls: Lent<u8>,
+    bays: Lent<u16>,
+}
+
+impl LentField {
+    /// Guards that would be taken for a wall, a bay or a square of this field would hide a read outside.
+    pub fn new(plan: &Plan) -> LentField {
+        LentField { walls: Lent::new(&plan.walls, 0xee), bays: Lent::new(&plan.bays, 0xeee1) }
+    }
+
+    pub fn numbers<'a>(&'a self, plan: &'a Plan) -> FieldNumbers<'a> {
+        FieldNumbers { walls: self.walls.content(), bays: self.bays.content(), ..plan.numbers() }
+    }
+
+    pub fn fault(&self, plan: &Plan) -> Option<String> {
+        self.walls.fault("walls", &plan.walls).or_else(|| self.bays.fault("bays", &plan.bays))
     }
 }
 

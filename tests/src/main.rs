@@ -2,14 +2,12 @@
 
 mod bench;
 mod boundaries;
+mod change;
 mod changes;
 mod compare;
-mod entry;
 mod examples;
 mod hall;
 mod lent;
-#[cfg(feature = "library")]
-mod library;
 mod model;
 mod options;
 #[path = "../../bench/src/plain.rs"]
@@ -21,7 +19,6 @@ mod plain_way;
 mod plan;
 mod playing;
 mod programs;
-mod random;
 mod reference;
 mod report;
 mod ring;
@@ -40,6 +37,9 @@ use compare::Extent;
 use options::Options;
 use programs::Programs;
 use report::Group;
+use shared::call::Entry;
+#[cfg(feature = "library")]
+use shared::library::Library;
 use std::io::{self, Read, Write};
 use std::process::ExitCode;
 use texts::Program;
@@ -92,7 +92,7 @@ fn perform(options: &Options) -> Result<ExitCode, String> {
 fn of_ways(who: &str, extent: Extent) -> Result<Vec<Group>, String> {
     match who {
         #[cfg(feature = "way")]
-        "library" => Ok(ways::all(&mut library::Library, extent)),
+        "library" => Ok(ways::all(&mut Library, extent)),
         #[cfg(not(feature = "way"))]
         "library" => Err("this was built without the library's way; build it with --features way".to_string()),
         "copy" => Ok(ways::all(&mut wrong::way::WayCopy { fault: None }, extent)),
@@ -105,7 +105,7 @@ fn of_ways(who: &str, extent: Extent) -> Result<Vec<Group>, String> {
 fn of_ticks(who: &str, extent: Extent) -> Result<Vec<Group>, String> {
     match who {
         #[cfg(feature = "tick")]
-        "library" => Ok(ticks::all(&mut library::Library, extent)),
+        "library" => Ok(ticks::all(&mut Library, extent)),
         #[cfg(not(feature = "tick"))]
         "library" => Err("this was built without the library's tick; build it with --features tick".to_string()),
         "copy" => Ok(ticks::all(&mut wrong::tick::TickCopy { fault: None }, extent)),
@@ -140,7 +140,7 @@ fn show_text(options: &Options, program: Program, number: &str) -> Result<ExitCo
     Ok(ExitCode::SUCCESS)
 }
 
-fn compared(entry: &mut dyn entry::Entry, options: &Options, extent: Extent) -> Vec<Group> {
+fn compared(entry: &mut dyn Entry, options: &Options, extent: Extent) -> Vec<Group> {
     match options.kind {
         Some(kind) => vec![compare::of_kind(kind, &compare::run(kind, entry, extent))],
         None => compare::all(entry, extent),
@@ -149,7 +149,7 @@ fn compared(entry: &mut dyn entry::Entry, options: &Options, extent: Extent) -> 
 
 #[cfg(feature = "library")]
 fn library(options: &Options, extent: Extent) -> Result<Vec<Group>, String> {
-    Ok(compared(&mut library::Library, options, extent))
+    Ok(compared(&mut Library, options, extent))
 }
 
 #[cfg(not(feature = "library"))]

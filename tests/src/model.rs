@@ -12,6 +12,7 @@ pub use play::play;
 use crate::plan::Plan;
 use crate::reference::field::{Field, Way};
 use crate::reference::route::OUTSIDE;
+use std::fmt::{self, Display};
 use text::Lines;
 
 /// Why a text or a line of it is refused.
@@ -24,24 +25,27 @@ pub enum Refusal {
     Unreadable(usize),
 }
 
-impl Refusal {
-    fn print(self, output: &mut String) {
+/// What is printed in its line.
+impl Display for Refusal {
+    fn fmt(&self, f: &mut fmt::Formatter) -> fmt::Result {
         match self {
-            Refusal::NoField => output.push_str("refused 1\n"),
-            Refusal::NoEvent => output.push_str("refused 3\n"),
-            Refusal::NoWay => output.push_str("refused 5\n"),
-            Refusal::Unreadable(line) => output.push_str(&format!("refused 4 at {line}\n")),
+            Refusal::NoField => write!(f, "refused 1"),
+            Refusal::NoEvent => write!(f, "refused 3"),
+            Refusal::NoWay => write!(f, "refused 5"),
+            Refusal::Unreadable(line) => write!(f, "refused 4 at {line}"),
         }
     }
 }
 
-/// The plan in the first rows of a text, or what is printed instead.
-fn plan_of(rows: &[&[u8]]) -> Result<Plan, String> {
-    text::read_plan(rows).map_err(|refusal| {
-        let mut output = String::new();
-        refusal.print(&mut output);
-        output
-    })
+/// What is printed for a text: what `rest` makes of the plan in its first rows and of the lines behind, or why there is
+/// no plan.
+fn printed(input: &[u8], rest: impl FnOnce(Plan, &Lines) -> String) -> Vec<u8> {
+    let lines = Lines::of(input);
+    let output = match text::read_plan(&lines.rows) {
+        Ok(plan) => rest(plan, &lines),
+        Err(refusal) => format!("{refusal}\n"),
+    };
+    output.into_bytes()
 }
 
 /// The number in a word of digits. One that is too large for any limit is as good as the largest.
@@ -52,24 +56,9 @@ fn number(word: &[u8]) -> Option<usize> {
         .then(|| digits.iter().fold(0, |all: usize, digit| all.saturating_mul(10).saturating_add(*digit)))
 }
 
-/// The way from a square to one beside it, as a letter.
-fn letter(field: &Field, from: u16, to: u16) -> Option<char> {
-    "lrud".chars().find(|&letter| way(letter as u8).and_then(|way| field.toward(from, way)) == Some(to))
-}
-
-fn way(letter: u8) -> Option<Way> {
-    match letter {
-        b'l' => Some(Way::Left),
-        b'r' => Some(Way::Right),
-        b'u' => Some(Way::Up),
-        b'd' => Some(Way::Down),
-        _ => None,
-    }
-}
-
 /// The ways in a word, if every letter is one.
 fn ways(word: &[u8]) -> Option<Vec<Way>> {
-    word.iter().map(|&letter| way(letter)).collect()
+    word.iter().map(|&letter| Way::of_letter(letter)).collect()
 }
 
 /// The shuttle that a letter from a to p names.

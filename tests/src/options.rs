@@ -36,7 +36,7 @@ impl Options {
                 "--only" => options.only = Some(number(&value)?),
                 "--without" if value == "way" => options.commands.way = false,
                 "--without" if value == "tick" => options.commands.tick = false,
-                "--kind" => options.kind = Some(Kind::named(&value).ok_or(format!("no kind {value}"))?),
+                "--kind" => options.kind = Some(value.parse()?),
                 _ => return Err(format!("unknown option {word} {value}")),
             }
         }

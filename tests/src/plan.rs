@@ -1,8 +1,9 @@
 //! Random fields and random routes on them.
 
-use crate::entry::FieldNumbers;
-use crate::random::Random;
 use crate::reference::field::{Field, Way};
+use shared::call::FieldNumbers;
+use shared::random::Random;
+use std::fmt::{self, Display};
 
 /// The numbers of a field, owned.
 #[derive(Clone, Debug)]
@@ -51,6 +52,17 @@ impl Plan {
         let bays = random.between(few, room.min(16));
         free.truncate(bays);
         Plan { across: across as u64, down: (walls.len() / across) as u64, walls, bays: free }
+    }
+}
+
+/// Size, bays and walls, to be read by somebody who looks for a fault. The size need not fit the walls.
+impl Display for Plan {
+    fn fmt(&self, f: &mut fmt::Formatter) -> fmt::Result {
+        let Plan { across, down, walls, bays } = self;
+        write!(f, "field {across} x {down}, bays {bays:?}")?;
+        let width = usize::try_from(*across).ok().filter(|width| (1..=64).contains(width)).unwrap_or(64);
+        let sign = |mark: &u8| if *mark == 0 { '.' } else { '#' };
+        walls.chunks(width).try_for_each(|row| write!(f, "\n{}", row.iter().map(sign).collect::<String>()))
     }
 }
 

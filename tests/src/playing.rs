@@ -1,10 +1,11 @@
 //! Halls that are played from the start by random orders, steps and arrivals, and then to the end.
 
-use crate::entry::{ARRIVE, BEHIND, EventNumbers, HAPPENED, LENGTH, MARK, ORDER, SQUARE, STEP, part_of};
 use crate::hall::{Difference, Hall, Pair};
-use crate::plan::{self, Plan};
-use crate::random::Random;
+use crate::plan;
 use crate::ring::Ring;
+use shared::call::{ARRIVE, EventNumbers, ORDER, STEP};
+use shared::memory::{BEHIND, LENGTH, MARK, SQUARE, part_of};
+use shared::random::Random;
 
 /// Where routes come from: random walks of at most so many steps, or for the most part the routes of a ring.
 enum Routes {
@@ -14,14 +15,10 @@ enum Routes {
 
 /// Plays one hall. What must never be is counted in the tally: collisions, being stuck, not coming home.
 pub fn hall(random: &mut Random, pair: &mut Pair) -> Result<(), Difference> {
-    let (plan, routes) = if random.one_in(4) {
-        let ring = Ring::random(random);
-        (ring.plan, Routes::Ring(ring.routes))
-    } else {
-        (Plan::random(random), Routes::Walks(*random.pick(&[3, 6, 12, 30, 128])))
-    };
-    let mut hall = Hall::blank(plan);
-    hall.start(pair)?;
+    let Ring { plan, routes } = Ring::one_in(random, 4);
+    let routes =
+        if routes.is_empty() { Routes::Walks(*random.pick(&[3, 6, 12, 30, 128])) } else { Routes::Ring(routes) };
+    let mut hall = Hall::started(plan, pair)?;
     pair.tally.halls += 1;
     for _ in 0..random.between(20, 200) {
         event(random, pair, &mut hall, &routes)?;
@@ -39,8 +36,7 @@ fn event(random: &mut Random, pair: &mut Pair, hall: &mut Hall, routes: &Routes)
     }
     let needs_route = kind == ORDER && shuttle < count;
     let route = if needs_route { random_route(random, hall, shuttle, routes) } else { Vec::new() };
-    hall.happen(pair, EventNumbers { kind, shuttle: shuttle as u64, route: &route })?;
-    Ok(())
+    hall.happen(pair, EventNumbers { kind, shuttle: shuttle as u64, route: &route }).map(drop)
 }
 
 /// The kind of event that can happen to the shuttle, unless others are in its way.
@@ -104,7 +100,7 @@ fn one_event_further(random: &mut Random, pair: &mut Pair, hall: &mut Hall, i: u
     }
     let answer = hall.happen(pair, EventNumbers { kind, shuttle: i as u64, route: &[] })?;
     pair.tally.collisions += u64::from(collision(hall));
-    Ok(answer == HAPPENED)
+    Ok(answer == Ok(true))
 }
 
 /// Whether two shuttles hold a square together.

@@ -1,9 +1,9 @@
 //! Runs the two programs on texts and compares what they print with the models, byte for byte.
 
 use crate::model;
-use crate::random::Random;
 use crate::report::Group;
 use crate::texts::{self, Commands, Program};
+use shared::random::Random;
 use std::fs::{self, File};
 use std::io;
 use std::path::{Path, PathBuf};

@@ -9,14 +9,13 @@ pub mod tick;
 pub mod walks;
 pub mod way;
 
-use crate::entry::{
-    self, ARRIVE, Entry, EventNumbers, FieldNumbers, HAPPENED, MOST_LEFT, NOT, ORDER, PER_SHUTTLE, STEP,
-};
-use crate::random::Random;
 use field::Field;
 use fleet::Shuttle;
-use route::Verdict;
 use safety::Safety;
+use shared::answer::{Answer, Refusal};
+use shared::call::{ARRIVE, Entry, EventNumbers, FieldNumbers, ORDER, STEP};
+use shared::memory::{MOST_LEFT, PER_SHUTTLE, part_of_mut};
+use shared::random::Random;
 
 /// What came of a call, and why: the answer is a number only, but a run should show that each reason occurred.
 #[derive(Clone, Copy, Debug, PartialEq, Eq, PartialOrd, Ord)]
@@ -55,13 +54,13 @@ impl Outcome {
         Outcome::WrongEvent,
     ];
 
-    pub fn answer(self) -> u64 {
+    pub fn answer(self) -> Answer<bool> {
         match self {
-            Outcome::Taken | Outcome::Granted | Outcome::Arrived => HAPPENED,
-            Outcome::WrongField => entry::refused(1),
-            Outcome::WrongMemory => entry::refused(2),
-            Outcome::WrongEvent => entry::refused(3),
-            _ => NOT,
+            Outcome::Taken | Outcome::Granted | Outcome::Arrived => Ok(true),
+            Outcome::WrongField => Err(Refusal::Field),
+            Outcome::WrongMemory => Err(Refusal::Memory),
+            Outcome::WrongEvent => Err(Refusal::Event),
+            _ => Ok(false),
         }
     }
 }
@@ -96,8 +95,8 @@ impl Reference {
             Event::Step(i) => (i, self.step(&mut fleet, i)),
             Event::Arrive(i) => (i, arrive(&mut fleet[i])),
         };
-        if outcome.answer() == HAPPENED {
-            fleet[shuttle].write(entry::part_of_mut(memory, shuttle));
+        if outcome.answer() == Ok(true) {
+            fleet[shuttle].write(part_of_mut(memory, shuttle));
         }
         outcome
     }
@@ -119,21 +118,19 @@ impl Reference {
 }
 
 impl Entry for Reference {
-    fn happen(&mut self, field: FieldNumbers, memory: &mut [u16], event: EventNumbers) -> u64 {
+    fn happen(&mut self, field: FieldNumbers, memory: &mut [u16], event: EventNumbers) -> Answer<bool> {
         self.outcome(field, memory, event).answer()
     }
 
-    fn start(&mut self, numbers: FieldNumbers, memory: &mut [u16]) -> u64 {
-        let Some(field) = Field::read(numbers) else {
-            return entry::refused(1);
-        };
+    fn start(&mut self, numbers: FieldNumbers, memory: &mut [u16]) -> Answer<()> {
+        let field = Field::read(numbers).ok_or(Refusal::Field)?;
         if memory.len() != PER_SHUTTLE * field.bays.len() {
-            return entry::refused(2);
+            return Err(Refusal::Memory);
         }
         for (i, &bay) in field.bays.iter().enumerate() {
-            Shuttle::in_bay(bay).write(entry::part_of_mut(memory, i));
+            Shuttle::in_bay(bay).write(part_of_mut(memory, i));
         }
-        HAPPENED
+        Ok(())
     }
 }
 
@@ -159,7 +156,7 @@ fn order(field: &Field, fleet: &mut [Shuttle], i: usize, route: &[u16]) -> Outco
     if !fleet[i].left.is_empty() {
         return Outcome::OrderWithSquaresLeft;
     }
-    if route::judge(field, i, square, route) != Verdict::Right {
+    if route::judge(field, i, square, route).is_err() {
         return Outcome::NoRoute;
     }
     fleet[i] = Shuttle { square, moves: false, behind: square, left: route.to_vec() };

@@ -3,7 +3,7 @@
 //! is free.
 
 use crate::plan::Plan;
-use crate::random::Random;
+use shared::random::Random;
 
 pub struct Ring {
     pub plan: Plan,
@@ -12,7 +12,12 @@ pub struct Ring {
 }
 
 impl Ring {
-    pub fn random(random: &mut Random) -> Ring {
+    /// A ring in one case of so many, else any plan, which has no routes of its own.
+    pub fn one_in(random: &mut Random, many: usize) -> Ring {
+        if random.one_in(many) { Ring::random(random) } else { Ring { plan: Plan::random(random), routes: Vec::new() } }
+    }
+
+    fn random(random: &mut Random) -> Ring {
         let (wide, high) = (random.between(2, 6), random.between(2, 6));
         let corridor = corridor(wide, high);
         let mut entries: Vec<usize> = (0..corridor.len()).collect();

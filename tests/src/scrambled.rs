@@ -1,12 +1,12 @@
 //! Memory that is acceptable but that no row of events leads to: two shuttles on one square, a square behind that
 //! lies far away, routes that are none. The answers are defined there too.
 
-use crate::entry::{ARRIVE, EventNumbers, ORDER, STEP};
-use crate::entry::{BEHIND, LENGTH, MARK, MOST_LEFT, PER_SHUTTLE, PLACES, SQUARE, part_of, part_of_mut};
 use crate::hall::{Difference, Hall, Pair};
 use crate::plan::{self, Plan};
-use crate::random::Random;
 use crate::reference::fleet::Shuttle;
+use shared::call::{ARRIVE, EventNumbers, ORDER, STEP};
+use shared::memory::{BEHIND, LENGTH, MARK, MOST_LEFT, PER_SHUTTLE, PLACES, SQUARE, part_of, part_of_mut};
+use shared::random::Random;
 
 /// Who is in whose way once the chosen shuttle has made its step.
 #[derive(Clone, Copy)]
@@ -27,7 +27,7 @@ pub fn hall(random: &mut Random, pair: &mut Pair) -> Result<(), Difference> {
         let stepping = random.below(count.max(1));
         let memory = memory(random, &hall.plan, stepping);
         hall.set_memory(memory);
-        hall.happen(pair, EventNumbers { kind: STEP, shuttle: stepping as u64, route: &[] })?;
+        hall.happen(pair, EventNumbers { kind: STEP, shuttle: stepping as u64, route: &[] }).map(drop)?;
         for _ in 0..random.between(1, 6) {
             event(random, pair, &mut hall)?;
         }
@@ -52,8 +52,7 @@ fn event(random: &mut Random, pair: &mut Pair, hall: &mut Hall) -> Result<(), Di
         (ORDER, _) if shuttle < count => home_route(random, hall, shuttle),
         _ => Vec::new(),
     };
-    hall.happen(pair, EventNumbers { kind, shuttle: shuttle as u64, route: &route })?;
-    Ok(())
+    hall.happen(pair, EventNumbers { kind, shuttle: shuttle as u64, route: &route }).map(drop)
 }
 
 /// Lets one shuttle stand with nothing left on the square where it is, and gives it orders.
@@ -69,7 +68,7 @@ fn order_to_idle(random: &mut Random, pair: &mut Pair, hall: &mut Hall) -> Resul
     hall.set_memory(memory);
     for _ in 0..3 {
         let route = home_route(random, hall, shuttle);
-        hall.happen(pair, EventNumbers { kind: ORDER, shuttle: shuttle as u64, route: &route })?;
+        hall.happen(pair, EventNumbers { kind: ORDER, shuttle: shuttle as u64, route: &route }).map(drop)?;
     }
     Ok(())
 }

@@ -1,6 +1,8 @@
 //! What a run counts, so that it can be seen that every outcome occurred.
 
 use crate::reference::Outcome;
+use shared::answer::Refusal;
+use std::collections::BTreeMap;
 
 #[derive(Clone, Debug, Default)]
 pub struct Tally {
@@ -34,5 +36,19 @@ impl Tally {
             .map(|&outcome| format!("{outcome:?} {}", self.of(outcome)))
             .collect();
         counts.join(", ")
+    }
+}
+
+/// How many calls were refused, for each refusal.
+#[derive(Default)]
+pub struct Refusals(BTreeMap<Refusal, u64>);
+
+impl Refusals {
+    pub fn count(&mut self, refusal: Refusal) {
+        *self.0.entry(refusal).or_default() += 1;
+    }
+
+    pub fn each<const N: usize>(&self, refusals: [Refusal; N]) -> [u64; N] {
+        refusals.map(|refusal| self.0.get(&refusal).copied().unwrap_or(0))
     }
 }

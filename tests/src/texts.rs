@@ -1,9 +1,9 @@
 //! Random texts for the two programs: good ones, and damaged ones of every kind that the rules speak of.
 
 use crate::plan::{self, Plan};
-use crate::random::Random;
 use crate::reference::field::{Field, Way};
 use crate::ring::Ring;
+use shared::random::Random;
 
 #[derive(Clone, Copy, Debug, PartialEq, Eq)]
 pub enum Program {
@@ -32,12 +32,7 @@ pub fn text(random: &mut Random, program: Program) -> Vec<u8> {
     if random.one_in(40) {
         return any_bytes(random);
     }
-    let (plan, routes) = if random.one_in(4) {
-        let ring = Ring::random(random);
-        (ring.plan, ring.routes)
-    } else {
-        (Plan::random(random), Vec::new())
-    };
+    let Ring { plan, routes } = Ring::one_in(random, 4);
     let mut rows = rows(&plan);
     if random.one_in(6) {
         damage_rows(random, &mut rows);
@@ -214,21 +209,12 @@ fn letters(random: &mut Random, field: &Field, shuttle: usize, routes: &[Vec<u16
         Some(route) if !random.one_in(6) => route.clone(),
         _ => plan::route(random, field, shuttle, bay, steps),
     };
-    let mut letters = in_letters(field, bay, &route);
+    let mut letters: Vec<u8> = field.ways(bay, &route).map(Way::letter).collect();
     if random.one_in(6) {
         let place = random.below(letters.len() + 1);
         letters.insert(place, *random.pick(b"lrudlrudx"));
     }
     letters
-}
-
-fn in_letters(field: &Field, from: u16, route: &[u16]) -> Vec<u8> {
-    let befores = std::iter::once(&from).chain(route);
-    let letter = |(&before, &next): (&u16, &u16)| {
-        let way = Way::ALL.into_iter().zip(*b"lrud").find(|(way, _)| field.toward(before, *way) == Some(next));
-        way.map(|(_, letter)| letter)
-    };
-    befores.zip(route).filter_map(letter).collect()
 }
 
 /// Lines with one kind of end or with both, and with or without one at the end of the text.

@@ -6,19 +6,20 @@ mod hall;
 mod nights;
 
 use crate::compare::Extent;
-use crate::entry::Ticks;
 use crate::hall::Difference;
-use crate::random::Random;
 use crate::reference::Reference;
-use crate::reference::tick::TickOutcome;
 use crate::report::Group;
+use crate::tally::Refusals;
+use shared::answer::{Answer, Refusal};
+use shared::call::Ticks;
+use shared::random::Random;
 
 #[derive(Default)]
 struct Tally {
     ticks: u64,
     granted: u64,
     nobody: u64,
-    refused: [u64; 3],
+    refused: Refusals,
     /// Ticks in which one that has waited longer than the one that is granted has to wait on.
     passed_over: u64,
     /// Ticks in which another one has waited as long as the one that is granted.
@@ -29,19 +30,17 @@ struct Tally {
 }
 
 impl Tally {
-    fn count(&mut self, outcome: TickOutcome) {
+    fn count(&mut self, answer: Answer<Option<usize>>) {
         self.ticks += 1;
-        match outcome {
-            TickOutcome::Granted(_) => self.granted += 1,
-            TickOutcome::Nobody => self.nobody += 1,
-            TickOutcome::WrongField => self.refused[0] += 1,
-            TickOutcome::WrongMemory => self.refused[1] += 1,
-            TickOutcome::WrongTurns => self.refused[2] += 1,
+        match answer {
+            Ok(Some(_)) => self.granted += 1,
+            Ok(None) => self.nobody += 1,
+            Err(refusal) => self.refused.count(refusal),
         }
     }
 
     fn tell(&self) -> String {
-        let [field, memory, turns] = self.refused;
+        let [field, memory, turns] = self.refused.each([Refusal::Field, Refusal::Memory, Refusal::Turns]);
         format!(
             "{} ticks, {} granted, {} nobody's, {} with one passed over, {} with equals, refused {field} by field, \
              {memory} by memory, {turns} by waits or marks; {} nights, at most {} % of the bound",

@@ -5,14 +5,17 @@ mod cases;
 mod examples;
 
 use crate::compare::Extent;
-use crate::entry::{AskedNumbers, FieldNumbers, MOST_LEFT, Ways};
-use crate::hall::Difference;
-use crate::lent::Lent;
+use crate::hall::{Difference, wrong_answer};
+use crate::lent::{Lent, LentField};
 use crate::plan::Plan;
-use crate::random::Random;
 use crate::reference::walks;
-use crate::reference::way::{self, WayOutcome};
+use crate::reference::way::{self, Outcome};
 use crate::report::Group;
+use crate::tally::Refusals;
+use shared::answer::{Answer, Refusal};
+use shared::call::{AskedNumbers, Ways};
+use shared::memory::MOST_LEFT;
+use shared::random::Random;
 
 /// A call in full.
 #[derive(Clone)]
@@ -42,28 +45,26 @@ struct Tally {
     longest: usize,
     no_route: u64,
     too_long: u64,
-    refused: [u64; 3],
+    refused: Refusals,
     by_all_walks: u64,
 }
 
 impl Tally {
-    fn count(&mut self, outcome: WayOutcome) {
+    fn count(&mut self, outcome: Answer<Outcome>) {
         self.calls += 1;
         match outcome {
-            WayOutcome::Found(length) => {
+            Ok(Outcome::Found(length)) => {
                 self.found += 1;
                 self.longest = self.longest.max(length);
             }
-            WayOutcome::NoRoute => self.no_route += 1,
-            WayOutcome::TooLong => self.too_long += 1,
-            WayOutcome::WrongField => self.refused[0] += 1,
-            WayOutcome::WrongShuttle => self.refused[1] += 1,
-            WayOutcome::WrongAsked => self.refused[2] += 1,
+            Ok(Outcome::NoRoute) => self.no_route += 1,
+            Ok(Outcome::TooLong) => self.too_long += 1,
+            Err(refusal) => self.refused.count(refusal),
         }
     }
 
     fn tell(&self) -> String {
-        let [field, shuttle, asked] = self.refused;
+        let [field, shuttle, asked] = self.refused.each([Refusal::Field, Refusal::Event, Refusal::Way]);
         format!(
             "{} calls, {} found, longest {}, {} none, {} too long, refused {field} by field, {shuttle} by shuttle, \
              {asked} by what is asked; {} by all walks",
@@ -78,38 +79,36 @@ struct Pair<'a> {
 }
 
 impl Pair<'_> {
-    fn ask(&mut self, case: &Case) -> Result<u64, Difference> {
-        let walls = Lent::new(&case.plan.walls, 0xee);
-        let bays = Lent::new(&case.plan.bays, 0xeee1);
+    fn ask(&mut self, case: &Case) -> Result<Answer<Option<usize>>, Difference> {
+        let field = LentField::new(&case.plan);
         let row = Lent::new(&case.row, 0xeee2);
         // A number of its own in each place, none of them a square, so that every write is seen.
         let blank: Vec<u16> = (0..case.places).map(|place| 0xf000 | (place & 0xfff) as u16).collect();
         let mut route = Lent::new(&blank, 0xeee3);
         let mut expected = blank;
         let outcome = way::outcome(case.plan.numbers(), case.asked(), &mut expected);
-        let field = FieldNumbers { walls: walls.content(), bays: bays.content(), ..case.plan.numbers() };
         let asked = AskedNumbers { row: row.content(), ..case.asked() };
-        let answer = self.entry.way(field, asked, route.content_mut());
+        let answer = self.entry.way(field.numbers(&case.plan), asked, route.content_mut());
         self.tally.count(outcome);
         self.by_all_walks(case, outcome, &expected);
-        let wrong_answer = (answer != outcome.answer()).then(|| format!("the answer is {}", told(answer)));
-        let fault = wrong_answer
+        let fault = wrong_answer(&answer, &outcome.map(Outcome::length))
             .or_else(|| route.fault("the route", &expected))
-            .or_else(|| walls.fault("walls", &case.plan.walls))
-            .or_else(|| bays.fault("bays", &case.plan.bays))
+            .or_else(|| field.fault(&case.plan))
             .or_else(|| row.fault("the row", &case.row));
-        fault.map_or(Ok(answer), |fault| Err(format!("{fault}, should be {outcome:?}\n{}", picture(case, &expected))))
+        match fault {
+            Some(fault) => Err(format!("{fault}, {outcome:?}\n{}", picture(case, &expected))),
+            None => Ok(answer),
+        }
     }
 
-    fn by_all_walks(&mut self, case: &Case, outcome: WayOutcome, route: &[u16]) {
-        let refused = !matches!(outcome, WayOutcome::Found(_) | WayOutcome::NoRoute | WayOutcome::TooLong);
-        if refused || case.plan.squares() > ALL_WALKS_SQUARES {
+    fn by_all_walks(&mut self, case: &Case, outcome: Answer<Outcome>, route: &[u16]) {
+        if outcome.is_err() || case.plan.squares() > ALL_WALKS_SQUARES {
             return;
         }
         let (field, shuttle) = (case.plan.field(), case.shuttle as usize);
         let by_walks = walks::first_shortest(&field, shuttle, case.from, &case.row, ALL_WALKS_STEPS);
         let by_search = match outcome {
-            WayOutcome::Found(length @ ..=ALL_WALKS_STEPS) => Some(route[..length].to_vec()),
+            Ok(Outcome::Found(length @ ..=ALL_WALKS_STEPS)) => Some(route[..length].to_vec()),
             _ => None,
         };
         assert_eq!(by_walks, by_search, "all walks and the search differ:\n{}", picture(case, route));
@@ -117,22 +116,10 @@ impl Pair<'_> {
     }
 }
 
-fn told(answer: u64) -> String {
-    format!("{} with {} above", answer & 0xff, answer >> 8)
-}
-
 fn picture(case: &Case, expected: &[u16]) -> String {
     let Case { plan, shuttle, from, row, places } = case;
-    let Plan { across, down, walls, bays } = plan;
-    let sign = |mark: &u8| if *mark == 0 { '.' } else { '#' };
-    let width = usize::try_from(*across).ok().filter(|width| (1..=64).contains(width)).unwrap_or(64);
-    let rows: Vec<String> = walls.chunks(width).map(|marks| marks.iter().map(sign).collect()).collect();
     let route: Vec<&u16> = expected.iter().take_while(|&&square| square < 0xf000).collect();
-    format!(
-        "field {across} x {down}, bays {bays:?}\n{}\nshuttle {shuttle} from {from}, row {row:?}, {places} places\n\
-         route by the reference: {route:?}",
-        rows.join("\n")
-    )
+    format!("{plan}\nshuttle {shuttle} from {from}, row {row:?}, {places} places\nroute by the reference: {route:?}")
 }
 
 /// Random kinds of cases, and one of how many calls is of each.

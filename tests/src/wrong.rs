@@ -1,5 +1,13 @@
 //! Programs that only look right: the rules once more, each time with one fault, to see whether the tests find it.
 
+use shared::answer::{Answer, Refusal};
+use std::fmt::Display;
+
+/// Faults of one program that only looks right. They are printed with what they do.
+pub trait Planted: Copy + Display + 'static {
+    const ALL: &'static [Self];
+}
+
 macro_rules! faults {
     ($name:ident { $($fault:ident: $told:literal,)* }) => {
         #[derive(Clone, Copy, Debug, PartialEq, Eq)]
@@ -7,13 +15,16 @@ macro_rules! faults {
             $($fault,)*
         }
 
-        impl $name {
-            pub const ALL: &[$name] = &[$($name::$fault,)*];
+        impl $crate::wrong::Planted for $name {
+            const ALL: &'static [$name] = &[$($name::$fault,)*];
+        }
 
-            pub fn told(self) -> &'static str {
-                match self {
+        impl std::fmt::Display for $name {
+            fn fmt(&self, f: &mut std::fmt::Formatter) -> std::fmt::Result {
+                let told = match self {
                     $($name::$fault => $told,)*
-                }
+                };
+                write!(f, "{self:?} ({told})")
             }
         }
     };
@@ -23,6 +34,11 @@ mod blocking;
 pub mod copy;
 pub mod tick;
 pub mod way;
+
+/// The first refusal in this order whose numbers do not fit.
+fn refuse(order: [Refusal; 3], fits: impl Fn(Refusal) -> bool) -> Answer<()> {
+    order.into_iter().find(|&refusal| !fits(refusal)).map_or(Ok(()), Err)
+}
 
 faults! {
     Fault {

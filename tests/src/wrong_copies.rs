@@ -2,61 +2,47 @@
 
 use crate::compare::{self, Extent, Kind};
 use crate::report::Group;
-use crate::wrong::Fault;
 use crate::wrong::copy::RulesCopy;
-use crate::wrong::tick::{TickCopy, TickFault};
-use crate::wrong::way::{WayCopy, WayFault};
+use crate::wrong::tick::TickCopy;
+use crate::wrong::way::WayCopy;
+use crate::wrong::{Fault, Planted};
 use crate::{ticks, ways};
 
 pub fn all(extent: Extent) -> Vec<Group> {
-    let mut groups = without_fault(compare::all(&mut RulesCopy { fault: None }, extent));
-    groups.extend(Fault::ALL.iter().map(|&fault| caught(fault, extent)));
-    groups
+    let without = compare::all(&mut RulesCopy { fault: None }, extent);
+    let caught = |fault: Fault| {
+        let runs =
+            Kind::ALL.into_iter().map(|kind| (kind, compare::run(kind, &mut RulesCopy { fault: Some(fault) }, extent)));
+        let by = runs.filter(|(_, run)| run.difference.is_some());
+        caught_by(fault.to_string(), by.map(|(kind, run)| format!("{kind} at call {}", run.tally.calls)), ", ")
+    };
+    with_each_fault(without, caught)
 }
 
 pub fn all_ways(extent: Extent) -> Vec<Group> {
-    let mut groups = without_fault(ways::all(&mut WayCopy { fault: None }, extent));
-    groups.extend(WayFault::ALL.iter().map(|&fault| {
-        let found = ways::all(&mut WayCopy { fault: Some(fault) }, extent);
-        caught_by(format!("way, {fault:?} ({})", fault.told()), &found)
-    }));
-    groups
+    let run = |fault| ways::all(&mut WayCopy { fault }, extent);
+    with_each_fault(run(None), |fault| caught_by_groups(format!("way, {fault}"), run(Some(fault))))
 }
 
 pub fn all_ticks(extent: Extent) -> Vec<Group> {
-    let mut groups = without_fault(ticks::all(&mut TickCopy { fault: None }, extent));
-    groups.extend(TickFault::ALL.iter().map(|&fault| {
-        let found = ticks::all(&mut TickCopy { fault: Some(fault) }, extent);
-        caught_by(format!("tick, {fault:?} ({})", fault.told()), &found)
-    }));
-    groups
+    let run = |fault| ticks::all(&mut TickCopy { fault }, extent);
+    with_each_fault(run(None), |fault| caught_by_groups(format!("tick, {fault}"), run(Some(fault))))
 }
 
-fn without_fault(groups: Vec<Group>) -> Vec<Group> {
-    groups.into_iter().map(|group| Group { name: format!("no fault, {}", group.name), ..group }).collect()
+/// The groups of the copy without a fault, and one for each fault.
+fn with_each_fault<F: Planted>(without: Vec<Group>, caught: impl Fn(F) -> Group) -> Vec<Group> {
+    let without = without.into_iter().map(|group| Group { name: format!("no fault, {}", group.name), ..group });
+    without.chain(F::ALL.iter().map(|&fault| caught(fault))).collect()
 }
 
-/// A wrong copy is caught if one group of cases or more fails.
-fn caught_by(name: String, groups: &[Group]) -> Group {
-    let by: Vec<&str> =
-        groups.iter().filter(|group| group.failure.is_some()).map(|group| group.name.as_str()).collect();
-    Group {
-        name,
-        done: format!("caught by {}", by.join("; ")),
-        failure: by.is_empty().then(|| "not caught".to_string()),
-    }
+fn caught_by_groups(name: String, groups: Vec<Group>) -> Group {
+    let by = groups.into_iter().filter(|group| group.failure.is_some());
+    caught_by(name, by.map(|group| group.name), "; ")
 }
 
-fn caught(fault: Fault, extent: Extent) -> Group {
-    let by: Vec<String> = Kind::ALL
-        .into_iter()
-        .map(|kind| (kind, compare::run(kind, &mut RulesCopy { fault: Some(fault) }, extent)))
-        .filter(|(_, run)| run.difference.is_some())
-        .map(|(kind, run)| format!("{} at call {}", kind.name(), run.tally.calls))
-        .collect();
-    Group {
-        name: format!("{fault:?} ({})", fault.told()),
-        done: format!("caught by {}", by.join(", ")),
-        failure: by.is_empty().then(|| "not caught".to_string()),
-    }
+/// A wrong copy is caught if one kind of cases or more fails.
+fn caught_by(name: String, by: impl Iterator<Item = String>, between: &str) -> Group {
+    let by: Vec<String> = by.collect();
+    let failure = by.is_empty().then(|| "not caught".to_string());
+    Group { name, done: format!("caught by {}", by.join(between)), failure }
 }

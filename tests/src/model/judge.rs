@@ -1,31 +1,25 @@
 //! The program that judges routes.
 
-use super::{Lines, Refusal, plan_of, shuttle, squares, ways};
-use crate::entry::MOST_LEFT;
+use super::{Refusal, shuttle, squares, ways};
 use crate::reference::field::Field;
-use crate::reference::route::{self, Verdict};
+use crate::reference::route::{self, RouteFault};
+use shared::memory::MOST_LEFT;
 
 pub fn judge(input: &[u8]) -> Vec<u8> {
-    let lines = Lines::of(input);
-    let plan = match plan_of(&lines.rows) {
-        Ok(plan) => plan,
-        Err(printed) => return printed.into_bytes(),
-    };
-    let field = plan.field();
-    let mut output = String::new();
-    for (k, (number, line)) in lines.numbered_rest().enumerate() {
-        match judge_line(&field, k, number, line) {
-            Ok(Verdict::Right) => output.push_str("route ok\n"),
-            Ok(Verdict::WrongAt(step)) => output.push_str(&format!("{step}\n")),
-            Ok(Verdict::EndsOutside(steps)) => output.push_str(&format!("{steps}\n")),
-            Err(refusal) => refusal.print(&mut output),
-        }
-    }
-    output.into_bytes()
+    super::printed(input, |plan, lines| {
+        let field = plan.field();
+        let judged =
+            lines.numbered_rest().enumerate().map(|(k, (number, line))| match judge_line(&field, k, number, line) {
+                Ok(Ok(())) => "route ok\n".to_string(),
+                Ok(Err(RouteFault::WrongAt(step) | RouteFault::EndsOutside(step))) => format!("{step}\n"),
+                Err(refusal) => format!("{refusal}\n"),
+            });
+        judged.collect()
+    })
 }
 
 /// A line that can't be read is told before a shuttle that isn't there or a route that is too long.
-fn judge_line(field: &Field, k: usize, number: usize, line: &[u8]) -> Result<Verdict, Refusal> {
+fn judge_line(field: &Field, k: usize, number: usize, line: &[u8]) -> Result<Result<(), RouteFault>, Refusal> {
     let (i, letters) = match line {
         [letter, b' ', letters @ ..] if shuttle(*letter).is_some() => (shuttle(*letter).unwrap_or(k), letters),
         _ => (k, line),

@@ -1,16 +1,17 @@
 //! The program that plays a row of events.
 
 use super::turns::Turns;
-use super::{Lines, Refusal, letter, number, plan_of, shuttle, squares, ways};
-use crate::entry::{ARRIVE, Entry, EventNumbers, HAPPENED, MOST_ASKED, MOST_LEFT, ORDER, PER_SHUTTLE, STEP, part_of};
+use super::{Refusal, number, shuttle, squares, ways};
 use crate::plan::Plan;
-use crate::random::Random;
 use crate::reference::Reference;
 use crate::reference::field::Way;
 use crate::reference::fleet;
 use crate::reference::route::OUTSIDE;
 use crate::reference::way::first_shortest;
 use crate::texts::Commands;
+use shared::call::{ARRIVE, Entry, EventNumbers, MOST_ASKED, ORDER, STEP};
+use shared::memory::{MOST_LEFT, PER_SHUTTLE, part_of};
+use shared::random::Random;
 
 enum Command {
     Nothing,
@@ -32,20 +33,14 @@ struct Hall {
 }
 
 pub fn play(input: &[u8], commands: Commands) -> Vec<u8> {
-    let lines = Lines::of(input);
-    let plan = match plan_of(&lines.rows) {
-        Ok(plan) => plan,
-        Err(printed) => return printed.into_bytes(),
-    };
-    let mut hall = Hall::new(plan);
-    let mut output = String::new();
-    for (number, line) in lines.numbered_rest() {
-        match read(line, commands) {
-            Some(command) => hall.perform(command, &mut output),
-            None => Refusal::Unreadable(number).print(&mut output),
-        }
-    }
-    output.into_bytes()
+    super::printed(input, |plan, lines| {
+        let mut hall = Hall::new(plan);
+        let answer = |(number, line): (usize, &[u8])| {
+            let command = read(line, commands).ok_or(Refusal::Unreadable(number));
+            command.and_then(|command| hall.perform(command)).unwrap_or_else(|refusal| format!("{refusal}\n"))
+        };
+        lines.numbered_rest().map(answer).collect()
+    })
 }
 
 fn read(line: &[u8], commands: Commands) -> Option<Command> {
@@ -78,26 +73,23 @@ impl Hall {
     fn new(plan: Plan) -> Hall {
         let mut memory = vec![0; PER_SHUTTLE * plan.bays.len()];
         let mut reference = Reference::new(Random::new(0));
-        assert_eq!(reference.start(plan.numbers(), &mut memory), HAPPENED);
+        reference.start(plan.numbers(), &mut memory).expect("a plan that was read is a field");
         let turns = Turns::new(plan.bays.len());
         Hall { plan, memory, reference, turns }
     }
 
-    fn perform(&mut self, command: Command, output: &mut String) {
+    /// What is printed for the command.
+    fn perform(&mut self, command: Command) -> Result<String, Refusal> {
         let happened = match command {
-            Command::Nothing => return,
-            Command::Show => return self.show(output),
-            Command::Order(i, ways) => self.order(i, &ways),
-            Command::Step(i) => self.happen(STEP, i, &[]),
-            Command::Arrive(i) => self.happen(ARRIVE, i, &[]),
-            Command::Way(i, squares) => return self.way(i, &squares, output),
-            Command::Tick(count, after) => return self.ticks(count, after, output),
+            Command::Nothing => return Ok(String::new()),
+            Command::Show => return Ok(self.show()),
+            Command::Order(i, ways) => self.order(i, &ways)?,
+            Command::Step(i) => self.happen(STEP, i, &[])?,
+            Command::Arrive(i) => self.happen(ARRIVE, i, &[])?,
+            Command::Way(i, squares) => return self.way(i, &squares),
+            Command::Tick(count, after) => return Ok(self.ticks(count, after)),
         };
-        match happened {
-            Ok(true) => output.push_str("granted\n"),
-            Ok(false) => output.push_str("not\n"),
-            Err(refusal) => refusal.print(output),
-        }
+        Ok(if happened { "granted\n" } else { "not\n" }.to_string())
     }
 
     /// An order that leads over the edge is not taken; whether there is such a shuttle is asked first.
@@ -114,54 +106,45 @@ impl Hall {
             return Err(Refusal::NoEvent);
         }
         let event = EventNumbers { kind, shuttle: shuttle as u64, route };
-        let happened = self.reference.happen(self.plan.numbers(), &mut self.memory, event) == HAPPENED;
+        let happened = self.reference.happen(self.plan.numbers(), &mut self.memory, event) == Ok(true);
         if happened && kind == STEP {
             self.turns.stepped(shuttle);
         }
         Ok(happened)
     }
 
-    fn way(&self, shuttle: usize, asked: &[(usize, usize)], output: &mut String) {
+    fn way(&self, shuttle: usize, asked: &[(usize, usize)]) -> Result<String, Refusal> {
         let field = self.plan.field();
-        let Some(&bay) = field.bays.get(shuttle) else {
-            return Refusal::NoEvent.print(output);
-        };
+        let &bay = field.bays.get(shuttle).ok_or(Refusal::NoEvent)?;
         let outside = asked.iter().any(|&(column, row)| column >= field.across || row >= field.down);
         if outside || asked.len() > MOST_ASKED {
-            return Refusal::NoWay.print(output);
+            return Err(Refusal::NoWay);
         }
         let squares: Vec<u16> = asked.iter().map(|&(column, row)| (row * field.across + column) as u16).collect();
-        match first_shortest(&field, shuttle, bay, &squares).filter(|route| route.len() <= MOST_LEFT) {
-            Some(route) => {
-                let befores = std::iter::once(&bay).chain(&route);
-                output.extend(befores.zip(&route).filter_map(|(&from, &to)| letter(&field, from, to)));
-            }
-            None => output.push_str("none"),
-        }
-        output.push('\n');
+        let route = first_shortest(&field, shuttle, bay, &squares).filter(|route| route.len() <= MOST_LEFT);
+        let letters = |route: Vec<u16>| field.ways(bay, &route).map(|way| char::from(way.letter())).collect();
+        Ok(route.map_or("none".to_string(), letters) + "\n")
     }
 
-    fn ticks(&mut self, count: usize, after: usize, output: &mut String) {
-        for _ in 0..count {
+    fn ticks(&mut self, count: usize, after: usize) -> String {
+        let tick = |_| {
             let granted = self.turns.tick(&mut self.reference, &self.plan, &mut self.memory, after);
-            output.push(granted.map_or('-', |shuttle| char::from(b'a' + shuttle as u8)));
-            output.push('\n');
-        }
+            [granted.map_or('-', |shuttle| char::from(b'a' + shuttle as u8)), '\n']
+        };
+        (0..count).flat_map(tick).collect()
     }
 
-    fn show(&self, output: &mut String) {
+    fn show(&self) -> String {
         let field = self.plan.field();
         let fleet = fleet::read(&field, &self.memory).expect("what events leave is acceptable memory");
-        for row in 0..field.down {
-            for column in 0..field.across {
-                let square = (row * field.across + column) as u16;
-                let letter = |from: u8, i: usize| char::from(from + i as u8);
-                let holder = fleet.iter().position(|shuttle| shuttle.holds(square)).map(|i| letter(b'A', i));
-                let bay = field.bays.iter().position(|&bay| bay == square).map(|i| letter(b'a', i));
-                let free = if field.is_free(square) { '.' } else { '#' };
-                output.push(holder.or(bay).unwrap_or(free));
-            }
-            output.push('\n');
-        }
+        let sign = |square: u16| {
+            let letter = |from: u8, i: usize| char::from(from + i as u8);
+            let holder = fleet.iter().position(|shuttle| shuttle.holds(square)).map(|i| letter(b'A', i));
+            let bay = field.bays.iter().position(|&bay| bay == square).map(|i| letter(b'a', i));
+            let free = if field.is_free(square) { '.' } else { '#' };
+            holder.or(bay).unwrap_or(free)
+        };
+        let squares: Vec<u16> = (0..field.walls.len() as u16).collect();
+        squares.chunks(field.across).flat_map(|row| row.iter().map(|&square| sign(square)).chain(['\n'])).collect()
     }
 }

@@ -1,8 +1,8 @@
 //! What the program keeps for ticks: how long each shuttle has waited, and how many ticks ago it made its step.
 
-use crate::entry::Ticks;
 use crate::plan::Plan;
 use crate::reference::Reference;
+use shared::call::{Ticks, TurnNumbers};
 
 pub struct Turns {
     waits: Vec<u64>,
@@ -23,9 +23,8 @@ impl Turns {
     pub fn tick(&mut self, reference: &mut Reference, plan: &Plan, memory: &mut [u16], after: usize) -> Option<usize> {
         self.ages.iter_mut().for_each(|age| *age += 1);
         let due: Vec<u8> = self.ages.iter().map(|&age| u8::from(age >= after)).collect();
-        let answer = reference.tick(plan.numbers(), memory, &mut self.waits, &due);
-        assert!(answer & 0xff < 16, "a tick of the program is never refused");
-        let granted = (answer & 0xff == 0).then_some((answer >> 8) as usize);
-        granted.inspect(|&shuttle| self.stepped(shuttle))
+        let turns = TurnNumbers { waits: &mut self.waits, due: &due };
+        let granted = reference.tick(plan.numbers(), memory, turns);
+        granted.expect("a tick of the program is never refused").inspect(|&shuttle| self.stepped(shuttle))
     }
 }

@@ -1,6 +1,7 @@
 //! Fields: squares numbered row by row from 0, walls, and a bay for each shuttle.
 
-use crate::entry::FieldNumbers;
+use shared::call::FieldNumbers;
+use std::iter;
 
 /// Numbers that are known to be a field.
 #[derive(Clone, Copy)]
@@ -21,6 +22,20 @@ pub enum Way {
 
 impl Way {
     pub const ALL: [Way; 4] = [Way::Left, Way::Right, Way::Up, Way::Down];
+
+    /// What it is in a text.
+    pub fn letter(self) -> u8 {
+        match self {
+            Way::Left => b'l',
+            Way::Right => b'r',
+            Way::Up => b'u',
+            Way::Down => b'd',
+        }
+    }
+
+    pub fn of_letter(letter: u8) -> Option<Way> {
+        Way::ALL.into_iter().find(|way| way.letter() == letter)
+    }
 }
 
 impl<'a> Field<'a> {
@@ -61,6 +76,12 @@ impl<'a> Field<'a> {
     pub fn beside(&self, one: u16, other: u16) -> bool {
         let ((row, column), (other_row, other_column)) = (self.place(one), self.place(other));
         row.abs_diff(other_row) + column.abs_diff(other_column) == 1
+    }
+
+    /// The ways of a route from a square, but for steps that lead to no square beside the one before.
+    pub fn ways(&self, from: u16, route: &[u16]) -> impl Iterator<Item = Way> {
+        let way = |(from, &to): (u16, &u16)| Way::ALL.into_iter().find(|&way| self.toward(from, way) == Some(to));
+        iter::once(from).chain(route.iter().copied()).zip(route).filter_map(way)
     }
 
     /// The square that lies this way, if that is not over the edge.

@@ -1,7 +1,7 @@
 //! Shuttles, and how memory holds them.
 
 use super::field::Field;
-use crate::entry::{self, BEHIND, LENGTH, MARK, MOST_LEFT, PER_SHUTTLE, PLACES, SQUARE};
+use shared::memory::{BEHIND, LENGTH, MARK, MOST_LEFT, PER_SHUTTLE, PLACES, SQUARE, part_of};
 
 #[derive(Clone, Debug, PartialEq, Eq)]
 pub struct Shuttle {
@@ -54,5 +54,5 @@ pub fn read(field: &Field, memory: &[u16]) -> Option<Vec<Shuttle>> {
     if memory.len() != PER_SHUTTLE * field.bays.len() {
         return None;
     }
-    (0..field.bays.len()).map(|i| Shuttle::read(field, entry::part_of(memory, i))).collect()
+    (0..field.bays.len()).map(|i| Shuttle::read(field, part_of(memory, i))).collect()
 }

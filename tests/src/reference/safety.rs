@@ -3,7 +3,7 @@
 //! but the rule of who is in whose way, and compared with each other wherever that is affordable.
 
 use super::fleet::Shuttle;
-use crate::random::Random;
+use shared::random::Random;
 
 pub struct Safety {
     /// Chooses the cases that are tried by all subsets; set anew for each hall, so that one can be run alone.

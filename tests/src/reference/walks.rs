@@ -2,7 +2,7 @@
 //! right, down, left, up. It takes long, and shows on small fields that the search is right.
 
 use super::field::Field;
-use super::route::{self, Verdict};
+use super::route::{self, RouteFault};
 use super::way::ORDER;
 
 /// The first of the shortest routes that visit the row, if there is one of at most so many steps.
@@ -22,12 +22,12 @@ impl Walks<'_> {
     /// The first walk that goes on from this one by so many steps, is a route and visits the row.
     fn first(&self, walk: &mut Vec<u16>, steps: usize) -> Option<Vec<u16>> {
         let verdict = route::judge(self.field, self.shuttle, self.from, walk);
-        if let Verdict::WrongAt(_) = verdict {
+        if let Err(RouteFault::WrongAt(_)) = verdict {
             return None;
         }
         if steps == 0 {
             let met: Vec<u16> = [&[self.from], walk.as_slice()].concat();
-            return (verdict == Verdict::Right && visits(&met, self.row)).then(|| walk.clone());
+            return (verdict.is_ok() && visits(&met, self.row)).then(|| walk.clone());
         }
         let at = *walk.last().unwrap_or(&self.from);
         ORDER.into_iter().filter_map(|way| self.field.toward(at, way)).find_map(|to| {

@@ -1,63 +1,48 @@
 //! The shortest route through a row of squares, and of these the first by right, down, left, up.
 
-use super::Reference;
 use super::field::{Field, Way};
-use crate::entry::{self, AskedNumbers, FieldNumbers, MOST_ASKED, MOST_LEFT, Ways};
+use shared::answer::{Answer, Refusal};
+use shared::call::{AskedNumbers, FieldNumbers, MOST_ASKED};
+use shared::memory::MOST_LEFT;
 
 /// The order in which routes of one length are compared step by step.
 pub const ORDER: [Way; 4] = [Way::Right, Way::Down, Way::Left, Way::Up];
 
-/// What came of a call, and why.
+/// What came of a call that is not refused.
 #[derive(Clone, Copy, Debug, PartialEq, Eq)]
-pub enum WayOutcome {
+pub enum Outcome {
     Found(usize),
     /// No route of any length visits the row.
     NoRoute,
     /// There are routes, but none of at most 256 squares.
     TooLong,
-    WrongField,
-    WrongShuttle,
-    WrongAsked,
 }
 
-impl WayOutcome {
-    pub fn answer(self) -> u64 {
+impl Outcome {
+    pub fn length(self) -> Option<usize> {
         match self {
-            WayOutcome::Found(length) => entry::found(length),
-            WayOutcome::NoRoute | WayOutcome::TooLong => entry::NONE,
-            WayOutcome::WrongField => entry::refused(1),
-            WayOutcome::WrongShuttle => entry::refused(3),
-            WayOutcome::WrongAsked => entry::refused(5),
+            Outcome::Found(length) => Some(length),
+            Outcome::NoRoute | Outcome::TooLong => None,
         }
     }
 }
 
-pub fn outcome(numbers: FieldNumbers, asked: AskedNumbers, route: &mut [u16]) -> WayOutcome {
-    let Some(field) = Field::read(numbers) else {
-        return WayOutcome::WrongField;
-    };
-    let Some(shuttle) = usize::try_from(asked.shuttle).ok().filter(|&i| i < field.bays.len()) else {
-        return WayOutcome::WrongShuttle;
-    };
+pub fn outcome(numbers: FieldNumbers, asked: AskedNumbers, route: &mut [u16]) -> Answer<Outcome> {
+    let field = Field::read(numbers).ok_or(Refusal::Field)?;
+    let shuttle = usize::try_from(asked.shuttle).ok().filter(|&i| i < field.bays.len()).ok_or(Refusal::Event)?;
     let may_start = field.is_free(asked.from) && others_bay(&field, shuttle, asked.from).is_none();
     let row_fits = asked.row.len() <= MOST_ASKED && asked.row.iter().all(|&square| field.has(square));
     if !may_start || !row_fits || route.len() != MOST_LEFT {
-        return WayOutcome::WrongAsked;
+        return Err(Refusal::Way);
     }
-    match first_shortest(&field, shuttle, asked.from, asked.row) {
+    Ok(match first_shortest(&field, shuttle, asked.from, asked.row) {
         Some(found) if found.len() <= MOST_LEFT => {
             route[..found.len()].copy_from_slice(&found);
-            WayOutcome::Found(found.len())
+            Outcome::Found(found.len())
         }
-        Some(_) => WayOutcome::TooLong,
-        None => WayOutcome::NoRoute,
-    }
-}
-
-impl Ways for Reference {
-    fn way(&mut self, field: FieldNumbers, asked: AskedNumbers, route: &mut [u16]) -> u64 {
-        outcome(field, asked, route).answer()
-    }
+        Some(_) => Outcome::TooLong,
+        None => Outcome::NoRoute,
+    })
 }
 
 /// The shuttle other than this one whose bay the square is.

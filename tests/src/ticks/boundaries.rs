@@ -3,9 +3,12 @@
 use super::Pair;
 use super::hall::Hall;
 use crate::boundaries::{Call, SIZES, right, size};
+use crate::change::{Change, good, refused};
 use crate::changes;
-use crate::entry::{MARK, PER_SHUTTLE, STEP};
 use crate::hall::Difference;
+use shared::answer::Refusal::{self, Turns};
+use shared::call::STEP;
+use shared::memory::{MARK, PER_SHUTTLE};
 
 /// A tick in full.
 #[derive(Clone)]
@@ -15,62 +18,48 @@ struct Tick {
     due: Vec<u8>,
 }
 
-struct Change {
-    name: &'static str,
-    /// The number of the refusal; 0 if the tick is still good.
-    refusal: u64,
-    make: fn(&mut Tick),
-}
-
-const fn change(refusal: u64, name: &'static str, make: fn(&mut Tick)) -> Change {
-    Change { name, refusal, make }
-}
-
-const CHANGES: &[Change] = &[
-    change(6, "no waits", |t| t.waits.clear()),
-    change(6, "a wait too few", |t| t.waits.truncate(t.waits.len() - 1)),
-    change(6, "a wait too many", |t| t.waits.push(0)),
-    change(6, "256 waits too many", |t| t.waits.resize(t.waits.len() + 256, 0)),
-    change(6, "no marks", |t| t.due.clear()),
-    change(6, "a mark too few", |t| t.due.truncate(t.due.len() - 1)),
-    change(6, "a mark too many", |t| t.due.push(0)),
-    change(6, "256 marks too many", |t| t.due.resize(t.due.len() + 256, 0)),
-    change(6, "a wait and a mark too many", |t| {
+const CHANGES: &[Change<Tick, ()>] = &[
+    refused(Turns, "no waits", |t| t.waits.clear()),
+    refused(Turns, "a wait too few", |t| t.waits.truncate(t.waits.len() - 1)),
+    refused(Turns, "a wait too many", |t| t.waits.push(0)),
+    refused(Turns, "256 waits too many", |t| t.waits.resize(t.waits.len() + 256, 0)),
+    refused(Turns, "no marks", |t| t.due.clear()),
+    refused(Turns, "a mark too few", |t| t.due.truncate(t.due.len() - 1)),
+    refused(Turns, "a mark too many", |t| t.due.push(0)),
+    refused(Turns, "256 marks too many", |t| t.due.resize(t.due.len() + 256, 0)),
+    refused(Turns, "a wait and a mark too many", |t| {
         t.waits.push(0);
         t.due.push(0);
     }),
-    change(6, "mark 2 first", |t| t.due[0] = 2),
-    change(6, "mark 2 last", |t| *t.due.last_mut().expect("there is a shuttle") = 2),
-    change(6, "mark 255 first", |t| t.due[0] = 255),
-    change(6, "mark 255 last", |t| *t.due.last_mut().expect("there is a shuttle") = 255),
-    change(0, "all marks 1", |t| t.due.fill(1)),
-    change(0, "all marks 0", |t| t.due.fill(0)),
-    change(6, "the most waited first", |t| t.waits[0] = u64::MAX),
-    change(6, "the most waited last", |t| *t.waits.last_mut().expect("there is a shuttle") = u64::MAX),
-    change(0, "one less than the most waited first", |t| t.waits[0] = u64::MAX - 1),
-    change(0, "one less than the most waited last", |t| {
+    refused(Turns, "mark 2 first", |t| t.due[0] = 2),
+    refused(Turns, "mark 2 last", |t| *t.due.last_mut().expect("there is a shuttle") = 2),
+    refused(Turns, "mark 255 first", |t| t.due[0] = 255),
+    refused(Turns, "mark 255 last", |t| *t.due.last_mut().expect("there is a shuttle") = 255),
+    good("all marks 1", |t| t.due.fill(1)),
+    good("all marks 0", |t| t.due.fill(0)),
+    refused(Turns, "the most waited first", |t| t.waits[0] = u64::MAX),
+    refused(Turns, "the most waited last", |t| *t.waits.last_mut().expect("there is a shuttle") = u64::MAX),
+    good("one less than the most waited first", |t| t.waits[0] = u64::MAX - 1),
+    good("one less than the most waited last", |t| {
         *t.waits.last_mut().expect("there is a shuttle") = u64::MAX - 1;
     }),
-    change(0, "2^32 waited", |t| t.waits.fill(1 << 32)),
+    good("2^32 waited", |t| t.waits.fill(1 << 32)),
 ];
 
 pub fn all(pair: &mut Pair) -> Result<(), Difference> {
+    let of_calls = || changes::ALL.iter().filter(|change| change.refusal <= Some(Refusal::Memory));
     for size in SIZES {
         for left in [0, 1, 256] {
-            let good = good(Call::good(size, left, STEP));
+            let good = good_tick(Call::good(size, left, STEP));
             check(pair, &good, None, None)?;
-            for change in CHANGES {
-                check(pair, &good, None, Some(change))?;
-            }
-            for of_call in changes::ALL.iter().filter(|change| change.refusal <= 2) {
-                check(pair, &good, Some(of_call), None)?;
-            }
+            CHANGES.iter().try_for_each(|change| check(pair, &good, None, Some(change)))?;
+            of_calls().try_for_each(|of_call| check(pair, &good, Some(of_call), None))?;
         }
     }
     for size in [size(5, 5, 4, 1), size(64, 64, 16, 0)] {
-        let good = good(Call::good(size, 256, STEP));
-        for change in CHANGES.iter().filter(|change| change.refusal > 0) {
-            for of_call in changes::ALL.iter().filter(|change| (1..=2).contains(&change.refusal)) {
+        let good = good_tick(Call::good(size, 256, STEP));
+        for change in CHANGES.iter().filter(|change| change.refusal.is_some()) {
+            for of_call in of_calls().filter(|change| change.refusal.is_some()) {
                 check(pair, &good, Some(of_call), Some(change))?;
             }
         }
@@ -79,7 +68,7 @@ pub fn all(pair: &mut Pair) -> Result<(), Difference> {
 }
 
 /// The last shuttle moves and its arrival is due, so that a refused tick that makes it is seen.
-fn good(mut call: Call) -> Tick {
+fn good_tick(mut call: Call) -> Tick {
     let count = call.plan.bays.len();
     call.memory[PER_SHUTTLE * (count - 1) + MARK] = 1;
     let due = (0..count).map(|i| u8::from(i + 1 == count)).collect();
@@ -89,8 +78,8 @@ fn good(mut call: Call) -> Tick {
 fn check(
     pair: &mut Pair,
     good: &Tick,
-    of_call: Option<&changes::Change>,
-    of_turns: Option<&Change>,
+    of_call: Option<&Change<Call>>,
+    of_turns: Option<&Change<Tick, ()>>,
 ) -> Result<(), Difference> {
     let mut tick = good.clone();
     if let Some(change) = of_turns {
@@ -102,8 +91,8 @@ fn check(
     }
     let names = (of_call.map(|change| change.name), of_turns.map(|change| change.name));
     let told = |fault: Difference| format!("changed: {names:?}: {fault}");
-    let refusals = [of_call.map(|change| change.refusal), of_turns.map(|change| change.refusal)];
-    let refusal = refusals.into_iter().flatten().filter(|&number| number > 0).min();
+    let refusals = [of_call.and_then(|change| change.refusal), of_turns.and_then(|change| change.refusal)];
     let mut hall = Hall::new(tick.call.plan, tick.call.memory, tick.waits);
-    right(hall.tick(pair, &tick.due).map_err(told)?, refusal).map_err(told)
+    let answer = hall.tick(pair, &tick.due).map_err(told)?;
+    right(answer, refusals.into_iter().flatten().min()).map_err(told)
 }

@@ -1,16 +1,16 @@
 //! One hall whose ticks are made twice.
 
 use super::{Pair, Tally};
-use crate::entry::{Entry, EventNumbers, FieldNumbers, HAPPENED, LENGTH, MARK, ORDER, PER_SHUTTLE, SQUARE, part_of};
-use crate::hall::Difference;
-use crate::lent::Lent;
+use crate::hall::{Difference, wrong_answer};
+use crate::lent::{Lent, LentField};
 use crate::plan::Plan;
-use crate::reference::tick::TickOutcome;
+use shared::answer::Answer;
+use shared::call::{Entry, EventNumbers, ORDER, Ticks, TurnNumbers};
+use shared::memory::{LENGTH, MARK, PER_SHUTTLE, SQUARE, part_of};
 
 pub struct Hall {
     pub plan: Plan,
-    walls: Lent<u8>,
-    bays: Lent<u16>,
+    field: LentField,
     lent_memory: Lent<u16>,
     lent_waits: Lent<u64>,
     marks: Lent<u8>,
@@ -22,8 +22,7 @@ pub struct Hall {
 impl Hall {
     pub fn new(plan: Plan, memory: Vec<u16>, waits: Vec<u64>) -> Hall {
         Hall {
-            walls: Lent::new(&plan.walls, 0xee),
-            bays: Lent::new(&plan.bays, 0xeee1),
+            field: LentField::new(&plan),
             lent_memory: Lent::new(&memory, 0xeee2),
             lent_waits: Lent::new(&waits, 0xeeee_eeee_eeee_eee3),
             marks: Lent::new(&[], 0xed),
@@ -37,40 +36,36 @@ impl Hall {
     pub fn started(plan: Plan, pair: &mut Pair) -> Hall {
         let count = plan.bays.len();
         let mut memory = vec![u16::MAX; PER_SHUTTLE * count];
-        assert_eq!(pair.reference.start(plan.numbers(), &mut memory), HAPPENED);
+        pair.reference.start(plan.numbers(), &mut memory).expect("random plans are fields");
         Hall::new(plan, memory, vec![0; count])
     }
 
     /// Gives an order by the reference. Says whether it was taken.
     pub fn order(&mut self, pair: &mut Pair, shuttle: usize, route: &[u16]) -> bool {
         let event = EventNumbers { kind: ORDER, shuttle: shuttle as u64, route };
-        pair.reference.happen(self.plan.numbers(), &mut self.memory, event) == HAPPENED
+        pair.reference.happen(self.plan.numbers(), &mut self.memory, event) == Ok(true)
     }
 
-    pub fn tick(&mut self, pair: &mut Pair, due: &[u8]) -> Result<u64, Difference> {
+    pub fn tick(&mut self, pair: &mut Pair, due: &[u8]) -> Result<Answer<Option<usize>>, Difference> {
         self.lent_memory.set(&self.memory);
         self.lent_waits.set(&self.waits);
         self.marks.set(due);
         let before = self.waits.clone();
-        let (memory, waits) = (&mut self.memory, &mut self.waits);
-        let outcome = pair.reference.tick_outcome(self.plan.numbers(), memory, waits, due);
-        let field = FieldNumbers { walls: self.walls.content(), bays: self.bays.content(), ..self.plan.numbers() };
-        let (memory, waits) = (self.lent_memory.content_mut(), self.lent_waits.content_mut());
-        let answer = pair.entry.tick(field, memory, waits, self.marks.content());
-        pair.tally.count(outcome);
-        if let TickOutcome::Granted(i) = outcome {
+        let turns = TurnNumbers { waits: &mut self.waits, due };
+        let should = pair.reference.tick(self.plan.numbers(), &mut self.memory, turns);
+        let turns = TurnNumbers { waits: self.lent_waits.content_mut(), due: self.marks.content() };
+        let answer = pair.entry.tick(self.field.numbers(&self.plan), self.lent_memory.content_mut(), turns);
+        pair.tally.count(should);
+        if let Ok(Some(i)) = should {
             self.count_others(&mut pair.tally, i, before[i]);
         }
-        let should = outcome.answer();
-        let wrong_answer = (answer != should).then(|| format!("the answer is {answer}, should be {should}"));
-        let fault = wrong_answer
+        let fault = wrong_answer(&answer, &should)
             .or_else(|| self.lent_memory.fault("memory", &self.memory))
             .or_else(|| self.lent_waits.fault("waits", &self.waits))
             .or_else(|| self.marks.fault("marks", due))
-            .or_else(|| self.walls.fault("walls", &self.plan.walls))
-            .or_else(|| self.bays.fault("bays", &self.plan.bays));
+            .or_else(|| self.field.fault(&self.plan));
         match fault {
-            Some(fault) => Err(format!("{fault}, {outcome:?}, due {due:?}\nafter it should be:\n{}", self.told())),
+            Some(fault) => Err(format!("{fault}, {should:?}, due {due:?}\nafter it should be:\n{}", self.told())),
             None => Ok(answer),
         }
     }
@@ -92,14 +87,8 @@ impl Hall {
     }
 
     fn told(&self) -> String {
-        let Plan { across, down, walls, bays } = &self.plan;
         let shuttle = |part: &[u16]| format!("{:?}", &part[..part.len().min(12)]);
         let shuttles: Vec<String> = self.memory.chunks(PER_SHUTTLE).map(shuttle).collect();
-        let walls: Vec<usize> = (0..walls.len()).filter(|&square| walls[square] > 0).collect();
-        format!(
-            "field {across} x {down}, bays {bays:?}, walls {walls:?}\n{}\nwaits {:?}",
-            shuttles.join("\n"),
-            self.waits
-        )
+        format!("{}\n{}\nwaits {:?}", self.plan, shuttles.join("\n"), self.waits)
     }
 }

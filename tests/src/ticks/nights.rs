@@ -2,21 +2,16 @@
 
 use super::Pair;
 use super::hall::Hall;
-use crate::entry::{LENGTH, MARK, PER_SHUTTLE, SQUARE, part_of};
 use crate::hall::Difference;
 use crate::plan::{self, Plan};
-use crate::random::Random;
 use crate::ring::Ring;
 use crate::scrambled as memories;
+use shared::memory::{LENGTH, MARK, PER_SHUTTLE, SQUARE, part_of};
+use shared::random::Random;
 
 /// Orders and ticks for a while, with arrivals due at any time, and then ticks until all are home.
 pub fn night(random: &mut Random, pair: &mut Pair) -> Result<(), Difference> {
-    let (plan, routes) = if random.one_in(3) {
-        let ring = Ring::random(random);
-        (ring.plan, ring.routes)
-    } else {
-        (Plan::random(random), Vec::new())
-    };
+    let Ring { plan, routes } = Ring::one_in(random, 3);
     let mut hall = Hall::started(plan, pair);
     let often = random.between(1, 6);
     for _ in 0..random.between(10, 60) {
@@ -25,7 +20,7 @@ pub fn night(random: &mut Random, pair: &mut Pair) -> Result<(), Difference> {
             set_waits(random, &mut hall, 7);
         }
         let due = marks(random, &hall, often);
-        hall.tick(pair, &due)?;
+        hall.tick(pair, &due).map(drop)?;
     }
     home(random, pair, &mut hall)
 }
@@ -44,7 +39,7 @@ pub fn scrambled(random: &mut Random, pair: &mut Pair) -> Result<(), Difference>
         if random.one_in(20) {
             damage(random, &mut hall, &mut due);
         }
-        hall.tick(pair, &due)?;
+        hall.tick(pair, &due).map(drop)?;
     }
     Ok(())
 }
@@ -111,7 +106,7 @@ fn home(random: &mut Random, pair: &mut Pair, hall: &mut Hall) -> Result<(), Dif
                 *ticks_left = draw(random);
             }
         }
-        hall.tick(pair, &due)?;
+        hall.tick(pair, &due).map(drop)?;
     }
     pair.tally.nights += 1;
     pair.tally.largest_share = pair.tally.largest_share.max(100 * ticks / bound);

@@ -2,8 +2,9 @@
 
 use super::{Case, MOST_LEFT};
 use crate::plan::{self, Plan};
-use crate::random::Random;
 use crate::reference::field::Field;
+use shared::maze;
+use shared::random::Random;
 
 /// On a field that is small enough to go through all walks.
 pub fn small(random: &mut Random) -> Case {
@@ -95,30 +96,11 @@ fn winding(random: &mut Random) -> Case {
     Case { plan, shuttle: 0, from: corridor[start] as u16, row, places: MOST_LEFT }
 }
 
-/// Corridors between cells at every second row and column that reach every cell, with some more openings.
+/// A maze with some more openings.
 fn maze(random: &mut Random) -> Plan {
     let (across, down) = (random.between(20, 64), random.between(20, 64));
-    let mut walls = vec![1; across * down];
-    let mut path = vec![(0usize, 0usize)];
-    walls[0] = 0;
-    while let Some(&(row, column)) = path.last() {
-        let cells =
-            [(row, column + 2), (row + 2, column), (row, column.wrapping_sub(2)), (row.wrapping_sub(2), column)];
-        let closed =
-            |&(row, column): &(usize, usize)| row < down && column < across && walls[row * across + column] == 1;
-        let closed: Vec<(usize, usize)> = cells.into_iter().filter(closed).collect();
-        if closed.is_empty() {
-            path.pop();
-            continue;
-        }
-        let (to_row, to_column) = *random.pick(&closed);
-        walls[(row + to_row) / 2 * across + (column + to_column) / 2] = 0;
-        walls[to_row * across + to_column] = 0;
-        path.push((to_row, to_column));
-    }
-    for _ in 0..random.below(across * down / 20) {
-        let opened = random.below(walls.len());
-        walls[opened] = 0;
-    }
+    let mut walls = maze::walls(random, across, down);
+    let openings = random.below(across * down / 20);
+    maze::open(random, &mut walls, openings);
     Plan::with_bays(random, across, walls)
 }

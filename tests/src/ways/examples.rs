@@ -1,7 +1,7 @@
 //! Ways that were worked out by hand.
 
 use super::{Case, MOST_LEFT, Pair};
-use crate::entry::{NONE, found};
+
 use crate::hall::Difference;
 use crate::plan::Plan;
 
@@ -66,15 +66,13 @@ pub fn all(pair: &mut Pair) -> Result<(), Difference> {
 }
 
 fn expect(pair: &mut Pair, case: &Case, route: Option<&[u16]>) -> Result<(), Difference> {
-    let answer = pair.ask(case)?;
-    let should = route.map_or(NONE, |route| found(route.len()));
     let mut places = vec![0; MOST_LEFT];
-    pair.entry.way(case.plan.numbers(), case.asked(), &mut places);
+    let answers = [pair.ask(case)?, pair.entry.way(case.plan.numbers(), case.asked(), &mut places)];
     let written = &places[..route.map_or(0, <[u16]>::len)];
-    if answer == should && route.is_none_or(|route| route == written) {
+    if answers == [Ok(route.map(<[u16]>::len)); 2] && route.is_none_or(|route| route == written) {
         return Ok(());
     }
-    Err(format!("both answer {answer} with {written:?}, worked out by hand {route:?}: {:?}", case.row))
+    Err(format!("both answer {answers:?} with {written:?}, worked out by hand {route:?}: {:?}", case.row))
 }
 
 /// A corridor of so many squares: to its end and back is as long as a route may be, or one or two squares longer.

@@ -1,7 +1,8 @@
 //! Whether all can run, from who blocks whom as sets of bits: rightly by taking out, and wrongly in several ways.
 
 use super::copy::left;
-use crate::entry::{FieldNumbers, PER_SHUTTLE};
+use shared::call::FieldNumbers;
+use shared::memory::PER_SHUTTLE;
 
 /// The set after each that can run was taken out, once round.
 pub fn take_out_once(blockers: &[u32], set: u32) -> u32 {

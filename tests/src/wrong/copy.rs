@@ -1,10 +1,11 @@
 //! The rules by another algorithm than the reference's: on the numbers of memory themselves, with a set of blockers
 //! for each shuttle as bits. Without a fault it must agree with the reference in everything.
 
-use super::Fault;
 use super::blocking::{all_can_run, all_run_past_bays, at_home, has_ring, take_out_once};
-use crate::entry::{self, ARRIVE, Entry, EventNumbers, FieldNumbers, HAPPENED, NOT, ORDER, STEP};
-use crate::entry::{BEHIND, LENGTH, MARK, MOST_LEFT, PER_SHUTTLE, PLACES, SQUARE, part_of, part_of_mut};
+use super::{Fault, refuse};
+use shared::answer::{Answer, Refusal};
+use shared::call::{ARRIVE, Entry, EventNumbers, FieldNumbers, ORDER, STEP};
+use shared::memory::{BEHIND, LENGTH, MARK, MOST_LEFT, PER_SHUTTLE, PLACES, SQUARE, part_of, part_of_mut};
 
 #[derive(Clone, Copy)]
 pub struct RulesCopy {
@@ -12,31 +13,31 @@ pub struct RulesCopy {
 }
 
 impl Entry for RulesCopy {
-    fn happen(&mut self, field: FieldNumbers, memory: &mut [u16], event: EventNumbers) -> u64 {
-        let fits = |number: &u64| match number {
-            1 => self.field_fits(field),
-            2 => self.memory_fits(field, memory),
-            _ => self.event_fits(field, event),
+    fn happen(&mut self, field: FieldNumbers, memory: &mut [u16], event: EventNumbers) -> Answer<bool> {
+        let order = if self.has(Fault::EventBeforeMemory) {
+            [Refusal::Field, Refusal::Event, Refusal::Memory]
+        } else {
+            [Refusal::Field, Refusal::Memory, Refusal::Event]
         };
-        let order = if self.has(Fault::EventBeforeMemory) { [1, 3, 2] } else { [1, 2, 3] };
-        if let Some(number) = order.into_iter().find(|number| !fits(number)) {
-            return entry::refused(number);
-        }
+        refuse(order, |refusal| match refusal {
+            Refusal::Field => self.field_fits(field),
+            Refusal::Memory => self.memory_fits(field, memory),
+            _ => self.event_fits(field, event),
+        })?;
         let shuttle = event.shuttle as usize;
-        let happened = match event.kind {
+        Ok(match event.kind {
             ORDER => self.order(field, memory, shuttle, event.route),
             STEP => self.step(field, memory, shuttle),
             _ => self.arrive(part_of_mut(memory, shuttle)),
-        };
-        if happened { HAPPENED } else { NOT }
+        })
     }
 
-    fn start(&mut self, field: FieldNumbers, memory: &mut [u16]) -> u64 {
+    fn start(&mut self, field: FieldNumbers, memory: &mut [u16]) -> Answer<()> {
         if !self.field_fits(field) {
-            return entry::refused(1);
+            return Err(Refusal::Field);
         }
         if memory.len() != PER_SHUTTLE * field.bays.len() {
-            return entry::refused(2);
+            return Err(Refusal::Memory);
         }
         for (i, &bay) in field.bays.iter().enumerate() {
             let part = part_of_mut(memory, i);
@@ -45,7 +46,7 @@ impl Entry for RulesCopy {
                 part[PLACES..].fill(0);
             }
         }
-        HAPPENED
+        Ok(())
     }
 }
 

@@ -1,9 +1,12 @@
 //! Ticks by another algorithm than the reference's: those that may step are asked in the order in which they have
 //! waited. Without a fault it must agree with the reference in everything.
 
-use super::Fault;
 use super::copy::RulesCopy;
-use crate::entry::{FieldNumbers, LENGTH, MARK, NOBODY, PER_SHUTTLE, Ticks, granted, refused};
+use super::{Fault, refuse};
+use shared::answer::{Answer, Refusal};
+use shared::call::{FieldNumbers, Ticks, TurnNumbers};
+use shared::function::{Function, Tick};
+use shared::memory::{LENGTH, MARK, PER_SHUTTLE};
 use std::cmp::Reverse;
 
 faults! {
@@ -46,12 +49,13 @@ pub struct TickCopy {
 }
 
 impl Ticks for TickCopy {
-    fn tick(&mut self, field: FieldNumbers, memory: &mut [u16], waits: &mut [u64], due: &[u8]) -> u64 {
-        if let Some(number) = self.refusal(field, memory, waits, due) {
-            if self.has(TickFault::ArrivalsIfRefused) && number == 6 {
+    fn tick(&mut self, field: FieldNumbers, memory: &mut [u16], turns: TurnNumbers) -> Answer<Option<usize>> {
+        let TurnNumbers { waits, due } = turns;
+        if let Err(refusal) = self.check(field, memory, waits, due) {
+            if self.has(TickFault::ArrivalsIfRefused) && refusal == Refusal::Turns {
                 self.arrivals(memory, due);
             }
-            return refused(number);
+            return Err(refusal);
         }
         let before = (memory.to_vec(), waits.to_vec());
         if self.has(TickFault::CountedBeforeArrivals) {
@@ -76,9 +80,8 @@ impl Ticks for TickCopy {
             waits.copy_from_slice(&before.1);
         }
         match whose.first() {
-            Some(&i) if self.has(TickFault::AnswerNotShifted) => i as u64,
-            Some(&i) => granted(i),
-            None => NOBODY,
+            Some(&i) if self.has(TickFault::AnswerNotShifted) => Tick::answer(i as u64),
+            first => Ok(first.copied()),
         }
     }
 }
@@ -88,15 +91,18 @@ impl TickCopy {
         self.fault == Some(fault)
     }
 
-    fn refusal(&self, field: FieldNumbers, memory: &[u16], waits: &[u64], due: &[u8]) -> Option<u64> {
+    fn check(&self, field: FieldNumbers, memory: &[u16], waits: &[u64], due: &[u8]) -> Answer<()> {
         let rules = RulesCopy { fault: None };
-        let fits = |number: &u64| match number {
-            1 => rules.field_fits(field),
-            2 => rules.memory_fits(field, memory),
-            _ => self.turns_fit(field.bays.len(), waits, due),
+        let order = if self.has(TickFault::TurnsBeforeMemory) {
+            [Refusal::Field, Refusal::Turns, Refusal::Memory]
+        } else {
+            [Refusal::Field, Refusal::Memory, Refusal::Turns]
         };
-        let order = if self.has(TickFault::TurnsBeforeMemory) { [1, 6, 2] } else { [1, 2, 6] };
-        order.into_iter().find(|number| !fits(number))
+        refuse(order, |refusal| match refusal {
+            Refusal::Field => rules.field_fits(field),
+            Refusal::Memory => rules.memory_fits(field, memory),
+            _ => self.turns_fit(field.bays.len(), waits, due),
+        })
     }
 
     fn turns_fit(&self, count: usize, waits: &[u64], due: &[u8]) -> bool {

@@ -2,8 +2,11 @@
 //! each leg. Without a fault it must agree with the reference in everything.
 
 use super::copy::RulesCopy;
-use crate::entry::{AskedNumbers, FieldNumbers, MOST_ASKED, MOST_LEFT, NONE, Ways, found, refused};
+use super::refuse;
 use crate::reference::field::{Field, Way};
+use shared::answer::{Answer, Refusal};
+use shared::call::{AskedNumbers, FieldNumbers, MOST_ASKED, Ways};
+use shared::memory::MOST_LEFT;
 
 faults! {
     WayFault {
@@ -44,12 +47,10 @@ pub struct WayCopy {
 }
 
 impl Ways for WayCopy {
-    fn way(&mut self, field: FieldNumbers, asked: AskedNumbers, route: &mut [u16]) -> u64 {
-        if let Some(number) = self.refusal(field, asked, route.len()) {
-            return refused(number);
-        }
+    fn way(&mut self, field: FieldNumbers, asked: AskedNumbers, route: &mut [u16]) -> Answer<Option<usize>> {
+        self.check(field, asked, route.len())?;
         if asked.row.iter().any(|&square| usize::from(square) >= field.walls.len()) {
-            return NONE;
+            return Ok(None);
         }
         let mut made = Vec::new();
         let most = match self.fault {
@@ -64,12 +65,12 @@ impl Ways for WayCopy {
             route[..written].copy_from_slice(&made[..written]);
         }
         if !there_is || !fits {
-            return NONE;
+            return Ok(None);
         }
         if self.has(WayFault::ClearsPlaces) {
             route[written..].fill(0);
         }
-        found(made.len() - usize::from(self.has(WayFault::DistanceTooSmall) && !made.is_empty()))
+        Ok(Some(made.len() - usize::from(self.has(WayFault::DistanceTooSmall) && !made.is_empty())))
     }
 }
 
@@ -87,20 +88,19 @@ impl WayCopy {
         self.fault == Some(fault)
     }
 
-    fn refusal(&self, field: FieldNumbers, asked: AskedNumbers, places: usize) -> Option<u64> {
+    fn check(&self, field: FieldNumbers, asked: AskedNumbers, places: usize) -> Answer<()> {
+        let order = match self.fault {
+            Some(WayFault::AskedBeforeShuttle) => [Refusal::Field, Refusal::Way, Refusal::Event],
+            Some(WayFault::ShuttleBeforeField) => [Refusal::Event, Refusal::Field, Refusal::Way],
+            _ => [Refusal::Field, Refusal::Event, Refusal::Way],
+        };
         let shuttle_fits = asked.shuttle < field.bays.len() as u64;
-        let fits = |number: &u64| match number {
-            1 => RulesCopy { fault: None }.field_fits(field),
-            3 => shuttle_fits,
+        refuse(order, |refusal| match refusal {
+            Refusal::Field => RulesCopy { fault: None }.field_fits(field),
+            Refusal::Event => shuttle_fits,
             // Without such a shuttle every bay is another's.
             _ => self.asked_fits(field, asked, shuttle_fits.then_some(asked.shuttle as usize), places),
-        };
-        let order = match self.fault {
-            Some(WayFault::AskedBeforeShuttle) => [1, 5, 3],
-            Some(WayFault::ShuttleBeforeField) => [3, 1, 5],
-            _ => [1, 3, 5],
-        };
-        order.into_iter().find(|number| !fits(number))
+        })
     }
 
     fn asked_fits(&self, field: FieldNumbers, asked: AskedNumbers, shuttle: Option<usize>, places: usize) -> bool {

@@ -1,33 +1,4 @@
-//! Mazes, and distances in them by the plainest search.
-
-use crate::random::Random;
-
-/// Corridors between cells at every second row and column that reach every cell, with some more walls opened.
-pub fn walls(random: &mut Random, across: usize, down: usize, openings: usize) -> Vec<u8> {
-    let mut walls = vec![1; across * down];
-    let mut path = vec![(0usize, 0usize)];
-    walls[0] = 0;
-    while let Some(&(row, column)) = path.last() {
-        let cells =
-            [(row, column + 2), (row + 2, column), (row, column.wrapping_sub(2)), (row.wrapping_sub(2), column)];
-        let closed =
-            |&&(row, column): &&(usize, usize)| row < down && column < across && walls[row * across + column] == 1;
-        let closed: Vec<&(usize, usize)> = cells.iter().filter(closed).collect();
-        if closed.is_empty() {
-            path.pop();
-            continue;
-        }
-        let &(to_row, to_column) = closed[random.below(closed.len())];
-        walls[(row + to_row) / 2 * across + (column + to_column) / 2] = 0;
-        walls[to_row * across + to_column] = 0;
-        path.push((to_row, to_column));
-    }
-    for _ in 0..openings {
-        let opened = random.below(walls.len());
-        walls[opened] = 0;
-    }
-    walls
-}
+//! Distances in mazes by the plainest search.
 
 fn around(across: usize, squares: usize, square: usize) -> impl Iterator<Item = usize> {
     let column = square % across;
