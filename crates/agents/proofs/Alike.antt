@@ -1,9 +1,9 @@
 -- Fleets of different kinds in which each holds, settles in and needs the same: the same can go, and the same is granted.
 use Rattle.std.proofs.Common.{◌≡◌, ℕ, ◌<◌, Bool, true, false, eqb, ◌⊎◌, List, sym, ap, ◌∙◌, ap₂, subst₂, ⊎_elim}
 use Rattle.std.proofs.lemmas.Bool.{both_ways, cases_Bool, cond-true, cond-false}
+use Rattle.std.specs.Cmp.{both_ways as same_test}
 use Rattle.agents.specs.Numbers.{meets}
 use Rattle.agents.specs.Kinds.{Kind, put, blocks, goes_under, may, GoesUnder, Granted}
-use Rattle.agents.proofs.Tests.{same_test}
 use Rattle.agents.proofs.Going.{below, kept_fewer}
 use Rattle.agents.proofs.Grants.{goes_under_is, may_is}
 

@@ -1,10 +1,11 @@
 -- Who can go after a change of the fleet, and of one agent.
 use Rattle.std.proofs.Common.{◌≡◌, ℕ, ◌<◌, Bool, true, false, List, sym, refl, ap, ◌∙◌, subst, inl, inr, ⊎_elim}
 use Rattle.std.proofs.lemmas.Bool.{cases_eq, both_ways}
+use Rattle.std.specs.Cmp.{both_ways as same_test}
 use Rattle.agents.specs.Numbers.{meets, Within}
 use Rattle.agents.specs.Going.{goes}
 use Rattle.agents.specs.Kinds.{Kind, put, blocks, GoesUnder, Kept, FreeFor, Apart}
-use Rattle.agents.proofs.Tests.{meets_tells, meets_from, same_test}
+use Rattle.agents.proofs.Tests.{meets_tells, meets_from}
 use Rattle.agents.proofs.Going.{kept, kept_fewer}
 use Rattle.agents.proofs.Fleets.{put_each, put_here, put_other}
 

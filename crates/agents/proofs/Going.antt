@@ -1,9 +1,9 @@
 -- Who can go: the one lemma by which going is kept when blocks and closings change, who waits, and that somebody can go at once.
 use Rattle.std.proofs.Common.{◌≡◌, ℕ, zero, suc, ◌<◌, Bool, true, false, not, ◌&&◌, eqb, ◌⊎◌, refl, inl, inr, ⊎_elim, arith}
-use Rattle.std.proofs.lemmas.Bool.{both_ways}
+use Rattle.std.proofs.lemmas.Bool.{both_ways, false_from_ne_true}
 use Rattle.std.proofs.lemmas.Bool.Decides.{nat_tests}
 use Rattle.agents.specs.Going.{CanGo, goes, Waits, closed, behind}
-use Rattle.agents.proofs.Tests.{some_below, false_from}
+use Rattle.agents.proofs.Tests.{some_below}
 
 -- another that blocks i and that a test finds, or none
 pub some_blocker : (n : ℕ) (w : ℕ → ℕ → Bool) (p : ℕ → Bool) (i : ℕ) →
@@ -35,7 +35,7 @@ module _ {n : ℕ} {w : ℕ → ℕ → Bool} {k : ℕ → Bool} where
       ⊎_elim
       (λ o. o)
       (λ (p : (k' i ≡ true → k i ≡ true) × ((j : ℕ) → j < n → (i ≡ j → ⊥) → w' i j ≡ true → ((w i j ≡ true) × In j) ⊎ CanGo n w' k' j)).
-      goes i l (false_from (k' i) (λ e. both_ways (k i) c (p.0 e)))
+      goes i l (false_from_ne_true (k' i) (λ e. both_ways (k i) c (p.0 e)))
       (λ j m ne e. ⊎_elim (λ (q : (w i j ≡ true) × In j). rest j m ne q.0 q.1) (λ o. o) (p.1 j m ne e)))
       (f i l h)
 
@@ -61,9 +61,9 @@ module _ {n : ℕ} {w : ℕ → ℕ → Bool} {k : ℕ → Bool} where
       (b j m ne e) in
       ⊎_elim
       (λ (t : (j : ℕ) × (j < n) × (i ≡ j → ⊥) × (w i j ≡ true) × (true ≡ true)). rest t.0 t.1 t.2 t.3
-      (false_from (done t.0) (λ d. both_ways (w i t.0) (f i t.0 l t.1 t.2 d) t.3)))
+      (false_from_ne_true (done t.0) (λ d. both_ways (w i t.0) (f i t.0 l t.1 t.2 d) t.3)))
       (λ (none : (j : ℕ) → j < n → (i ≡ j → ⊥) → w i j ≡ true → true ≡ false).
-      (i, goes i l c b, h, λ m lm ne. false_from (w i m) (λ e. both_ways true (none m lm ne e) refl)))
+      (i, goes i l c b, h, λ m lm ne. false_from_ne_true (w i m) (λ e. both_ways true (none m lm ne e) refl)))
       (some_blocker n w (λ _. true) i)
 
 -- what can be tried again and again, with a measure that falls, comes to where Q holds

@@ -1,11 +1,11 @@
 -- The grant rule: the test and its parts, that it keeps safety, and that somebody is always granted what it needs.
 use Rattle.std.proofs.Common.{◌≡◌, ℕ, ◌<◌, Bool, true, false, not, ◌||◌, List, ◌++◌, Decides, sym, refl, ◌∙◌, ⊎_elim, arith}
-use Rattle.std.proofs.lemmas.Bool.{cases_eq, both_ways, and_parts, and_from, or_cases}
+use Rattle.std.proofs.lemmas.Bool.{cases_eq, both_ways, and_parts, and_from, or_cases, false_from_ne_true}
 use Rattle.std.proofs.lemmas.Bool.Decides.{nat_tests}
 use Rattle.agents.specs.Numbers.{meets, Within}
 use Rattle.agents.specs.Kinds.{Kind, put, blocks, goes_under, all_go, keeps, free_for, may}
 use Rattle.agents.specs.Kinds.{GoesUnder, AllGo, Kept, FreeFor, Apart, Granted}
-use Rattle.agents.proofs.Tests.{all_below_is, follows_is, meets_tells, meets_from, among_append, false_from}
+use Rattle.agents.proofs.Tests.{all_below_is, follows_is, meets_tells, meets_from, among_append}
 use Rattle.agents.proofs.Going.{below, free_one}
 use Rattle.agents.proofs.Taking.{can_go_is}
 use Rattle.agents.proofs.Changes.{meets_within, kept_first, goes_first, apart_put}
@@ -50,7 +50,7 @@ module _ {S : Type 0} (K : Kind S) (n : ℕ) where
 
     -- a granted change keeps all apart, if what the agent holds after it is what it held or entered
     pub granted_apart : Apart K n g → i < n → Within (K.held s) (cs ++ K.held (g i)) → Granted K n g i cs s → Apart K n (put g i s)
-    granted_apart p l w h = apart_put K n g i s p (λ j m ne. false_from _ (λ e.
+    granted_apart p l w h = apart_put K n g i s p (λ j m ne. false_from_ne_true _ (λ e.
         let (c, a, b) = meets_tells (K.held (g j)) (K.held s) e in
         ⊎_elim (λ q. both_ways _ (h.free j m ne) (meets_from _ cs c a q))
         (λ q. both_ways _ (p i l j m ne) (meets_from _ (K.held (g i)) c a q))
@@ -71,7 +71,7 @@ module _ {S : Type 0} (K : Kind S) (n : ℕ) where
         FreeFor K n g i (K.needs s) →
         ((l : ℕ) → l < K.closings → K.shut l s ≡ false) → may K n g i cs s ≡ true
     may_free w o m f q = may_first o m f
-        (λ j l ne. false_from _ (λ e. both_ways _ (q j l ne)
+        (λ j l ne. false_from_ne_true _ (λ e. both_ways _ (q j l ne)
         (meets_within (K.settled (g j)) (K.needs s) (K.held (g j)) (K.needs s) (w j l) (λ _ a. a) e)))
 
   -- where everybody holds only where it settles and everybody can go, and idle ones block nobody: if one that is not idle can go under the
@@ -89,11 +89,11 @@ module _ {S : Type 0} (K : Kind S) (n : ℕ) where
       let (k, a, b, f) = free_one (λ j. K.idle (g j)) quiet h e in
       let free : (xs ys : List ℕ) (j : ℕ) → j < n → (k ≡ j → ⊥) → Within xs (K.settled (g j)) → Within ys (K.needs (g k)) →
       meets xs ys ≡ false =
-      λ xs ys j m ne p q. false_from _ (λ v. both_ways _ (f j m ne) (meets_within xs ys (K.settled (g j)) (K.needs (g k)) p q v)) in (
+      λ xs ys j m ne p q. false_from_ne_true _ (λ v. both_ways _ (f j m ne) (meets_within xs ys (K.settled (g j)) (K.needs (g k)) p q v)) in (
         k,
         a,
         b,
         λ cs s p q t. may_first g k cs s o (below a) (λ j m ne. free (K.held (g j)) cs j m ne (w j m) p)
             (λ j m ne. free (K.settled (g j)) (K.needs s) j m ne (λ _ z. z) q)
-            (λ l m. false_from _ (λ v. both_ways _ t (larger l s m v))),
+            (λ l m. false_from_ne_true _ (λ v. both_ways _ t (larger l s m v))),
       )

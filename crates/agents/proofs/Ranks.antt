@@ -1,10 +1,10 @@
 -- Who can go, by ranks: a number for each so that blockers have smaller ones.
 use Rattle.std.proofs.Common.{◌≡◌, ℕ, zero, suc, ◌<◌, Bool, true, false, cond, not, ◌||◌, eqb, List, ◌++◌, sym, ap, ◌∙◌, subst, ⊎_elim, arith}
-use Rattle.std.proofs.lemmas.Bool.{cases_Bool, both_ways, and_parts}
+use Rattle.std.proofs.lemmas.Bool.{cases_Bool, both_ways, and_parts, false_from_ne_true}
 use Rattle.std.proofs.lemmas.Bool.Decides.{nat_tests}
 use Rattle.agents.specs.Numbers.{among, all_to}
 use Rattle.agents.specs.Going.{CanGo, goes, clear, take_out, left_over}
-use Rattle.agents.proofs.Tests.{among_middle, among_all_to, clear_tells, false_from}
+use Rattle.agents.proofs.Tests.{among_middle, among_all_to, clear_tells}
 use Rattle.agents.proofs.Going.{below}
 use Rattle.agents.proofs.Taking.{set_stuck, Stays, Loses, take_out_is, left_over_all}
 
@@ -36,7 +36,7 @@ rounds_fall (suc m) w k is i j a e ne v =
     let next : among i js ≡ true → rounds m w k js j < rounds m w k js i = λ a'. rounds_fall m w k js i j a' e ne v in
     ⊎_elim
     (λ a'. let h = next a' in grind arith)
-    (λ (a' : among i js ≡ false). let h : among j is ≡ false = false_from (among j is)
+    (λ (a' : among i js ≡ false). let h : among j is ≡ false = false_from_ne_true (among j is)
     (λ b. both_ways (w i j) (clear_tells w i is (last a') j ne b) v) in grind arith)
     (cases_Bool (among i js))
   where

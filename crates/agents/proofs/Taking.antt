@@ -1,29 +1,30 @@
 -- Taking out, in any order or the first each time, finds exactly those who can go.
 use Rattle.std.proofs.Common.{◌≡◌, ℕ, zero, suc, ◌<◌, ◌≤◌, Bool, true, false, not, ◌||◌, eqb, ltb, ◌⊎◌, List, [], ◌∷◌, ◌++◌, length, Decides, sym, refl, ap, ◌∙◌, subst, inl, inr, ⊎_elim, arith, length-append}
-use Rattle.std.proofs.lemmas.Bool.{cases_Bool, cases_eq, both_ways, and_parts, and_from, and_cases, not-true, not-false, lt-ltb, ltb-true, not_from_false}
+use Rattle.std.proofs.lemmas.Bool.{cases_Bool, cases_eq, both_ways, and_parts, and_from, and_cases, not-true, not-false, lt-ltb, ltb-true, not_from_false, false_from_ne_true}
 use Rattle.std.proofs.lemmas.Bool.Decides.{nat_tests}
+use Rattle.std.specs.Cmp.{both_ways as same_test}
 use Rattle.agents.specs.Numbers.{among, all_to}
 use Rattle.agents.specs.Going.{CanGo, goes, Waits, closed, behind, clear, at_once, take_out, left_over, can_go, OthersGo, NoneFree}
-use Rattle.agents.proofs.Tests.{among_middle, among_all_to, clear_tells, clear_not, false_from, same_test}
+use Rattle.agents.proofs.Tests.{among_middle, among_all_to, clear_tells, clear_not}
 use Rattle.agents.proofs.Going.{below, some_blocker}
 
 module _ (n : ℕ) (w : ℕ → ℕ → Bool) (k : ℕ → Bool) where
   -- one of a set that is not closed and blocked by nobody else of it can go
   pub set_next : (In : ℕ → Bool) → OthersGo n w k In → (i : ℕ) → i < n → k i ≡ false →
       ((j : ℕ) → j < n → (i ≡ j → ⊥) → In j ≡ true → w i j ≡ false) → CanGo n w k i
-  set_next In o i l c f = goes i l c (λ j m ne e. o j m (false_from (In j) (λ h. both_ways (w i j) (f j m ne h) e)))
+  set_next In o i l c f = goes i l c (λ j m ne e. o j m (false_from_ne_true (In j) (λ h. both_ways (w i j) (f j m ne h) e)))
 
   -- so the set may lose it: the step of a loop that takes out in any order
   pub set_without : (In In' : ℕ → Bool) → OthersGo n w k In → (i : ℕ) → CanGo n w k i →
       ((j : ℕ) → j < n → (j ≡ i → ⊥) → In j ≡ true → In' j ≡ true) → OthersGo n w k In'
   set_without In In' o i g f j l e =
-      ⊎_elim (λ q. subst (CanGo n w k) (sym q) g) (λ ne. o j l (false_from (In j) (λ h. both_ways (In' j) e (f j l ne h)))) (cases_eq j i)
+      ⊎_elim (λ q. subst (CanGo n w k) (sym q) g) (λ ne. o j l (false_from_ne_true (In j) (λ h. both_ways (In' j) e (f j l ne h)))) (cases_eq j i)
 
   -- where nobody of a set can go at once, nobody of it can go
   pub set_stuck : (In : ℕ → Bool) → NoneFree n w k In → {i : ℕ} → CanGo n w k i → In i ≡ false
   set_stuck In s (goes i l c b) =
       let rest : (j : ℕ) → j < n → (i ≡ j → ⊥) → w i j ≡ true → In j ≡ false = λ j m ne e. set_stuck In s (b j m ne e) in
-      false_from (In i) (λ h. ⊎_elim
+      false_from_ne_true (In i) (λ h. ⊎_elim
       (λ q. both_ways (k i) c q)
       (λ (t : (j : ℕ) × (j < n) × (i ≡ j → ⊥) × (In j ≡ true) × (w i j ≡ true)). both_ways (In t.0) (rest t.0 t.1 t.2 t.4)
       t.3)

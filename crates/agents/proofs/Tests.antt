@@ -1,17 +1,9 @@
 -- What the small tests on numbers and lists tell, each as facts and back.
 use Rattle.std.proofs.Common.{◌≡◌, ℕ, zero, suc, ◌<◌, Bool, true, false, not, ◌||◌, eqb, ltb, ◌⊎◌, List, [], ◌∷◌, ◌++◌, Decides, sym, refl, subst, inl, inr, ⊎_elim, arith}
 use Rattle.std.proofs.lemmas.Bool.{cases_eq, cases_Bool, eqb-true, or_cases, or_left, or_right, and_parts, and_cases, both_ways, not_from_false}
-use Rattle.std.proofs.lemmas.Bool.Decides.{nat_tests, same_from_decides, Decides-below_and}
+use Rattle.std.proofs.lemmas.Bool.Decides.{nat_tests, Decides-below_and}
 use Rattle.agents.specs.Numbers.{among, meets, all_below, all_to}
 use Rattle.agents.specs.Going.{clear}
-
--- two tests that tell the same are equal
-pub same_test : (a b : Bool) → (a ≡ true → b ≡ true) → (b ≡ true → a ≡ true) → a ≡ b
-same_test a b p q = same_from_decides {P = b ≡ true} a b (p, q) (λ e. e, λ e. e)
-
--- a test that is not true is false
-pub false_from : (b : Bool) → (b ≡ true → ⊥) → b ≡ false
-false_from b no' = ⊎_elim (λ e. absurd (no' e)) (λ e. e) (cases_Bool b)
 
 -- some number below n passes the test, or none does
 pub some_below : (n : ℕ) (p : ℕ → Bool) → ((j : ℕ) × (j < n) × (p j ≡ true)) ⊎ ((j : ℕ) → j < n → p j ≡ false)

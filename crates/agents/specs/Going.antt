@@ -9,12 +9,12 @@ nobody i = false
 
 -- can go, one after the other: i is not closed, and every other that blocks it can go
 pub data CanGo (n : ℕ) (w : ℕ → ℕ → Bool) (k : ℕ → Bool) : ℕ → Type 0 where
-  goes : (i : ℕ) → i < n → k i ≡ false → ((j : ℕ) → j < n → (i ≢ j) → w i j ≡ true → CanGo n w k j) → CanGo n w k i
+  goes : (i : ℕ) → i < n → k i ≡ false → ((j : ℕ) → j < n → i ≢ j → w i j ≡ true → CanGo n w k j) → CanGo n w k i
 
 -- waits, by a chain of blockers, for a closed one
 pub data Waits (n : ℕ) (w : ℕ → ℕ → Bool) (k : ℕ → Bool) : ℕ → Type 0 where
   closed : (i : ℕ) → i < n → k i ≡ true → Waits n w k i
-  behind : (i j : ℕ) → i < n → j < n → (i ≢ j) → w i j ≡ true → Waits n w k j → Waits n w k i
+  behind : (i j : ℕ) → i < n → j < n → i ≢ j → w i j ≡ true → Waits n w k j → Waits n w k i
 
 -- i is clear of the list: no other of the list blocks i
 unfoldable pub clear : (ℕ → ℕ → Bool) → ℕ → List ℕ → Bool

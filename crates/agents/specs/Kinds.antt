@@ -45,7 +45,7 @@ keeps K n g h = all_below K.closings (λ l. all_below n (λ i. not (goes_under K
 
 -- no agent but i holds any of the places
 unfoldable pub free_for : {S : Type 0} → Kind S → ℕ → (ℕ → S) → ℕ → List ℕ → Bool
-free_for K n g i cs = all_below n (λ j. (i == j) || not (meets (K.held (g j)) cs))
+free_for K n g i cs = all_below n (λ j. i == j || not (meets (K.held (g j)) cs))
 
 -- agent i may change to s and enter the places cs: no other holds any of them, everybody can go after it, and in each closing it keeps
 -- whoever can go
@@ -68,7 +68,7 @@ Kept K n g h c = (i : ℕ) → GoesUnder K n g c i → GoesUnder K n h c i
 
 -- no agent but i holds any of the places
 abbrev pub FreeFor : {S : Type 0} → Kind S → ℕ → (ℕ → S) → ℕ → List ℕ → Type 0
-FreeFor K n g i cs = (j : ℕ) → j < n → (i ≢ j) → meets (K.held (g j)) cs ≡ false
+FreeFor K n g i cs = (j : ℕ) → j < n → i ≢ j → meets (K.held (g j)) cs ≡ false
 
 -- no two agents hold a place together
 abbrev pub Apart : {S : Type 0} → Kind S → ℕ → (ℕ → S) → Type 0

@@ -36,8 +36,8 @@ FewerBlocksKeepOrders = (w w' : ℕ → ℕ → Bool) (is : List ℕ) → ((i j 
 -- never stuck: where nobody is blocked by one that is done and one can go that is not done, such a one can go and is blocked by nobody
 abbrev pub SomeOneIsFree : Type 0
 SomeOneIsFree =
-    (n : ℕ) (w : ℕ → ℕ → Bool) (k done : ℕ → Bool) → ((i j : ℕ) → i < n → j < n → (i ≢ j) → done j ≡ true → w i j ≡ false) →
-    (i : ℕ) → CanGo n w k i → done i ≡ false → (j : ℕ) × CanGo n w k j × (done j ≡ false) × ((m : ℕ) → m < n → (j ≢ m) → w j m ≡ false)
+    (n : ℕ) (w : ℕ → ℕ → Bool) (k done : ℕ → Bool) → ((i j : ℕ) → i < n → j < n → i ≢ j → done j ≡ true → w i j ≡ false) →
+    (i : ℕ) → CanGo n w k i → done i ≡ false → (j : ℕ) × CanGo n w k j × (done j ≡ false) × ((m : ℕ) → m < n → j ≢ m → w j m ≡ false)
 
 -- where everybody can go when nobody is closed, each can go or waits for a closed one, and never both
 abbrev pub GoesOrWaits : Type 0
@@ -64,7 +64,7 @@ abbrev pub SomeGoes : Type 0 → Type 0
 SomeGoes S =
     (K : Kind S) (n : ℕ) (g : ℕ → S) (top : S → Bool) → ((l : ℕ) (s : S) → l < K.closings → K.shut l s ≡ true → top s ≡ true) →
     ((i : ℕ) → i < n → Within (K.held (g i)) (K.settled (g i))) → AllGo K n g →
-    ((i j : ℕ) → i < n → j < n → (i ≢ j) → K.idle (g j) ≡ true → blocks K g i j ≡ false) →
+    ((i j : ℕ) → i < n → j < n → i ≢ j → K.idle (g j) ≡ true → blocks K g i j ≡ false) →
     (i : ℕ) → GoesUnder K n g top i → K.idle (g i) ≡ false →
     (k : ℕ) × GoesUnder K n g top k × (K.idle (g k) ≡ false) ×
     ((cs : List ℕ) (s : S) → Within cs (K.needs (g k)) → Within (K.needs s) (K.needs (g k)) → top s ≡ false →

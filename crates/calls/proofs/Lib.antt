@@ -1,8 +1,7 @@
--- Proofs about memory and calls.
-pub mod Stored
-pub mod Accepted
+-- Proofs about calls.
 pub mod Refusal
 pub mod Follow
 pub mod Row
 pub mod Keep
 pub mod Less
+pub mod Answered

@@ -1,4 +1,3 @@
 -- Answers as numbers.
 pub mod Numbers
-pub mod WayNumbers
 pub mod TickNumbers

@@ -1,16 +1,17 @@
 -- The answers of the other functions, as one number: the low 8 bits say which, the bits above how long or whose.
-use Rattle.std.specs.Prelude.{◌≡◌, ℕ, ◌+◌, ◌*◌, List}
-use Rattle.rules.specs.Field.{Field}
-use Rattle.way.specs.Answer.{Answers}
-use Rattle.way.specs.declared.answer.Way.{Way}
-use Rattle.way.specs.declared.answer.Way.TheVariants.{Found, None, Refused}
+use Rattle.std.specs.Prelude.{◌≡◌, ℕ, ◌+◌, ◌*◌, Some, None, Ok, Err, Option, Result, List}
+use Rattle.rules.specs.Memory.{FieldNumbers}
+use Rattle.field.specs.declared.refusal.Refusal.{Refusal}
+use Rattle.field.specs.Refusals.{number_of}
+use Rattle.way.specs.Answer.{Answered}
 
--- a route of k squares 2 with k above it, none 1, refusal n as 16 + n
-unfoldable pub way_number : Way → ℕ
-way_number (Found k) = 256 * k + 2
-way_number None = 1
-way_number (Refused n) = 16 + n
+-- this kind with k above it, none 1, refusal n as 16 + n
+abbrev pub number : (kind : ℕ) → Result (Option ℕ) Refusal → ℕ
+number kind (Ok (Some k)) = 256 * k + kind
+number kind (Ok None) = 1
+number kind (Err r) = 16 + number_of r
 
--- n is the number of an answer that is right
-abbrev pub WaySays : Field → (shuttle from : ℕ) → (row : List ℕ) → (refusal : ℕ) → (before after : List ℕ) → ℕ → Type 0
-WaySays f i c row refusal before after n = (w : Way) × (n ≡ way_number w) × Answers f i c row refusal before after w
+-- n is the number of an answer that is right: a route of k squares is 2 with k above it
+abbrev pub WaySays : FieldNumbers → (shuttle from : ℕ) → (row before after : List ℕ) → ℕ → Type 0
+WaySays lent i c row before after n =
+    (w : Result (Option ℕ) Refusal) × (n ≡ number 2 w) × Answered lent i c row before after w

@@ -1,24 +1,10 @@
 // Ticks for C.
-ghost use Rattle.std.specs.Prelude.{◌≡◌, ◌<◌};
-ghost use Rattle.calls.specs.Call.{Reached, Promised};
-ghost use Rattle.tick.specs.Answer.{number};
-ghost use Rattle.tick.specs.Tick.{tick_refusal, TickSays};
+ghost use Rattle.rules.specs.Memory.{field_numbers};
+ghost use Rattle.tick.specs.Tick.{Answered};
 
-use tick::Ticked;
+use super::answers::{HAPPENED, number_of};
 
-// The number of an answer: 0 and whose above it, 1 nobody's, 16 + n it was turned away by n.
-fn number_of_ticked(answer: Ticked) -> u64
-    requires { number answer < 131072 }
-    ensures { result ≡ number answer }
-{
-    match answer {
-        Ticked::Granted(i) => 256 * i,
-        Ticked::Nobody => 1,
-        Ticked::Refused(n) => 16 + n,
-    }
-}
-
-// One tick, as tick::tick has it.
+// One tick, as tick::tick has it: HAPPENED with whose step is granted above it, or NOT.
 #[unsafe(no_mangle)]
 pub extern "C" fn tick(
     across: u64,
@@ -29,9 +15,9 @@ pub extern "C" fn tick(
     waits: &mut [u64],
     due: &[u8],
 ) -> u64
-    ensures says { TickSays (tick_refusal across down walls.now bays.now memory.old waits.old due.now) across down walls.now bays.now memory.old waits.old due.now result memory.new waits.new }
-    ensures stays { Reached across down walls.now bays.now memory.old → Reached across down walls.now bays.now memory.new × Promised across down walls.now bays.now memory.new }
+    ensures { Answered (field_numbers across down walls.now bays.now)
+        memory.old waits.old due.now result memory.new waits.new }
 {
     let answer = tick::tick(across, down, walls, bays, memory, waits, due);
-    number_of_ticked(answer)
+    number_of(answer, HAPPENED)
 }

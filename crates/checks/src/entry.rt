@@ -1,20 +1,12 @@
 // The entry: what is turned away, start memory, and what events leave in memory.
 use super::small::{BAYS, UNREAD, WALLS, standing};
-use hall::{Done, happen, start};
+use field::Refusal;
+use hall::{happen, start};
 use std::test::Fail;
-
-// The number of an answer: happened 0, not 1, turned away by k as 16 + k.
-fn number(done: Done) -> u64 {
-    match done {
-        Done::Happened => 0,
-        Done::Not => 1,
-        Done::Refused(k) => k.saturating_add(16),
-    }
-}
 
 // What a call in the small hall answers.
 fn call(memory: &mut [u16], kind: u64, shuttle: u64, route: &[u16]) -> u64 {
-    number(happen(4, 2, &WALLS, &BAYS, memory, kind, shuttle, route))
+    happen(4, 2, &WALLS, &BAYS, memory, kind, shuttle, route).into()
 }
 
 #[test]
@@ -22,7 +14,7 @@ fn the_first_refusal_counts(rt: HostRuntime) -> Result<(), Fail> {
     let mut memory = standing(rt.alloc(), [0, 3], &[], &[])?;
     let answers = [
         // the field, memory and the event; memory and the event
-        number(happen(4, 1, &WALLS, &BAYS, &mut [], 3, 2, &[])),
+        happen(4, 1, &WALLS, &BAYS, &mut [], 3, 2, &[]).into(),
         call(&mut [], 3, 2, &[]),
         // the kind, the shuttle, a square of the route, its length
         call(&mut memory, 3, 0, &[]),
@@ -40,11 +32,15 @@ fn the_first_refusal_counts(rt: HostRuntime) -> Result<(), Fail> {
 fn all_start_at_home(rt: HostRuntime) -> Result<(), Fail> {
     let mut memory = vec![in rt.alloc(); UNREAD; 520]?;
     let answers = [
-        number(start(4, 1, &WALLS, &BAYS, &mut memory)),
-        number(start(4, 2, &WALLS, &[0], &mut memory)),
-        number(start(4, 2, &WALLS, &BAYS, &mut memory)),
+        start(4, 1, &WALLS, &BAYS, &mut memory),
+        start(4, 2, &WALLS, &[0], &mut memory),
+        start(4, 2, &WALLS, &BAYS, &mut memory),
     ];
-    assert_eq!(rt; answers, [17, 18, 0]);
+    assert_eq!(rt;
+        answers,
+        [Err(Refusal::Field), Err(Refusal::Memory), Ok(())]
+    );
+    assert_eq!(rt; [Refusal::Field.code(), Refusal::Memory.code()], [17, 18]);
     assert!(rt; memory == standing(rt.alloc(), [0, 3], &[], &[])?);
     Ok(())
 }

@@ -1,7 +1,8 @@
 // Fields and routes.
-use super::small::{BAYS, WALLS};
-use field::{Field, is_field};
-use route::{Verdict, judge};
+use super::small::{BAYS, WALLS, small_field};
+use field::is_field;
+use route::{Fault, judge};
+use std::test::Fail;
 
 #[test]
 fn fields_are_accepted(rt: HostRuntime) {
@@ -37,27 +38,32 @@ fn fields_are_refused(rt: HostRuntime) {
 }
 
 #[test]
-fn rows_end_and_routes_are_judged(rt: HostRuntime) {
-    assert!(rt; is_field(4, 2, &WALLS, &BAYS));
-    let field = Field {
-        across: 4,
-        down: 2,
-        walls: &WALLS,
-        bays: &BAYS,
-    };
+fn rows_end_and_routes_are_judged(rt: HostRuntime) -> Result<(), Fail> {
+    let field = small_field()?;
     let beside = [field.beside(2, 3), field.beside(3, 7), field.beside(4, 0)];
     assert_eq!(rt; beside, [true; 3]);
     let apart = [field.beside(3, 4), field.beside(4, 3), field.beside(0, 5)];
     assert_eq!(rt; apart, [false; 3]);
+    assert_eq!(rt; field.bays.len(), 2);
     let judged = [
-        matches!(judge(&field, 0, 0, &[1, 2, 6, 5, 4, 0]), Verdict::Right),
-        matches!(judge(&field, 0, 0, &[]), Verdict::Right),
-        matches!(judge(&field, 0, 1, &[]), Verdict::OutsideAfter(0)),
-        matches!(judge(&field, 0, 0, &[1, 2]), Verdict::OutsideAfter(2)),
+        judge(&field, 0, 0, &[1, 2, 6, 5, 4, 0]),
+        judge(&field, 0, 0, &[]),
+        judge(&field, 0, 1, &[]),
+        judge(&field, 0, 0, &[1, 2]),
         // another's bay, the own one on the way, past the end of a row
-        matches!(judge(&field, 0, 0, &[1, 2, 3, 2, 1]), Verdict::WrongAt(2)),
-        matches!(judge(&field, 0, 0, &[1, 0, 1, 0]), Verdict::WrongAt(1)),
-        matches!(judge(&field, 1, 3, &[4, 5, 6, 7, 3]), Verdict::WrongAt(0)),
+        judge(&field, 0, 0, &[1, 2, 3, 2, 1]),
+        judge(&field, 0, 0, &[1, 0, 1, 0]),
+        judge(&field, 1, 3, &[4, 5, 6, 7, 3]),
     ];
-    assert_eq!(rt; judged, [true; 7]);
+    let faults = [
+        Ok(()),
+        Ok(()),
+        Err(Fault::OutsideAfter(0)),
+        Err(Fault::OutsideAfter(2)),
+        Err(Fault::WrongAt(2)),
+        Err(Fault::WrongAt(1)),
+        Err(Fault::WrongAt(0)),
+    ];
+    assert_eq!(rt; judged, faults);
+    Ok(())
 }

@@ -1,4 +1,4 @@
-// Examples of each layer, as tests: fields, routes, steps, orders and the entry. There is nothing else here.
+// Examples of each layer, as tests: fields, routes, steps, orders, the entry and texts. There is nothing else here.
 #![tactic(auto)]
 
 #[cfg(test)]
@@ -9,3 +9,5 @@ mod fields;
 mod small;
 #[cfg(test)]
 mod steps;
+#[cfg(test)]
+mod texts;

@@ -1,24 +1,16 @@
 // What is safe in the small hall, which steps are granted, and what an order leaves.
-use super::small::{BAYS, WALLS, standing};
-use field::{Field, is_field};
+use super::small::{small_field, standing};
 use grant::is_granted;
+use memory::{Hall, is_memory};
 use orders::take_order;
-use safety::{Fleet, is_memory};
+use safety::Fleet;
 use std::alloc::Global;
 use std::test::Fail;
 
 // Whether all is safe, and whether the one and the other may step.
 fn answers(heap: Global, at: [u16; 2], one: &[u16], other: &[u16]) -> Result<[bool; 3], Fail> {
+    let field = small_field()?;
     let memory = standing(heap, at, one, other)?;
-    if !is_field(4, 2, &WALLS, &BAYS) {
-        return Err(Fail::new("the hall is no field"));
-    }
-    let field = Field {
-        across: 4,
-        down: 2,
-        walls: &WALLS,
-        bays: &BAYS,
-    };
     if !is_memory(&field, &memory) {
         return Err(Fail::new("the memory is not accepted"));
     }
@@ -55,15 +47,14 @@ fn an_order_sets_the_square_behind(rt: HostRuntime) -> Result<(), Fail> {
     if let Some(behind) = memory.get_mut(2) {
         *behind = 7;
     }
-    assert!(rt; is_field(4, 2, &WALLS, &BAYS));
-    let field = Field {
-        across: 4,
-        down: 2,
-        walls: &WALLS,
-        bays: &BAYS,
-    };
+    let field = small_field()?;
     assert!(rt; is_memory(&field, &memory));
-    assert!(rt; take_order(&field, &mut memory, 0, &[1, 0]));
+    assert!(rt; !field.bays.is_empty());
+    let mut hall = Hall {
+        field,
+        memory: &mut memory,
+    };
+    assert!(rt; take_order(&mut hall, 0, &[1, 0]));
     assert!(rt; memory == standing(rt.alloc(), [0, 3], &[1, 0], &[])?);
     Ok(())
 }

@@ -1,8 +1,9 @@
-// What both programs share: the text that they work on, and words for what is wrong.
+// What both programs share: how they run, the text that they work on, and words for what is wrong.
 #![tactic(auto)]
 
 mod input;
+mod program;
 mod words;
 
-pub use input::{Input, read_input};
-pub use words::{tell, turn_away};
+pub use program::{Program, run};
+pub use words::{answered, tell, turn_away};

@@ -1,23 +1,31 @@
 // What is turned away: its number on standard output, and what is wrong in words on standard error.
-use std::io;
-use text::Refusal;
+use field::Refusal;
+use std::fmt::Display;
+use text::Failure;
 
-// Says in words why something was turned away.
-pub fn tell(rt: &HostRuntime, refusal: Refusal) -> io::Result<()> {
-    match refusal {
-        Refusal::Field => rt.eprintln("the field has no square, or more than 64 across or down"),
-        Refusal::Event => rt.eprintln(
-            "there is no such shuttle, or the route has more than 256 letters",
-        ),
-        Refusal::Squares => rt.eprintln(
-            "a square is outside the field, or there are more than eight",
-        ),
-        Refusal::Line(k) => eprintln!(rt; "line {k}, counted from 0, can't be read"),
+// Prints why something was turned away, and says it in words.
+pub fn turn_away(rt: &HostRuntime, refusal: Refusal) -> anyhow::Result<()> {
+    rt.println(refusal)?;
+    rt.eprintln(Failure::Refused(refusal))?;
+    Ok(())
+}
+
+// What was answered; nothing where it was turned away, which is told.
+pub fn answered<T>(rt: &HostRuntime, answer: Result<T, Failure>) -> anyhow::Result<Option<T>> {
+    match answer {
+        Ok(answer) => Ok(Some(answer)),
+        Err(Failure::Refused(refusal)) => {
+            turn_away(rt, refusal)?;
+            Ok(None)
+        }
+        Err(failure) => Err(failure.into()),
     }
 }
 
-// Prints why something was turned away, and says it in words.
-pub fn turn_away(rt: &HostRuntime, refusal: Refusal) -> io::Result<()> {
-    println!(rt; "{refusal}")?;
-    tell(rt, refusal)
+// Prints what was answered, or why it was turned away.
+pub fn tell<T: Display + Drop>(rt: &HostRuntime, answer: Result<T, Failure>) -> anyhow::Result<()> {
+    if let Some(answer) = answered(rt, answer)? {
+        rt.println(answer)?;
+    }
+    Ok(())
 }

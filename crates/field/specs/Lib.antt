@@ -1,2 +1,4 @@
--- What the code's field stands for.
+-- What the code's field, directions and refusals stand for.
 pub mod Model
+pub mod Directions
+pub mod Refusals

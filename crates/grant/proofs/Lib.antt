@@ -1,2 +1,3 @@
 -- Lemmas on steps.
 pub mod Moving
+pub mod Listed

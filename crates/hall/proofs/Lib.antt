@@ -1,6 +1,4 @@
--- Lemmas on memory after steps, arrivals and the start, and on the entry.
-pub mod Shifting
-pub mod Written
-pub mod Steps
+-- Lemmas on events and on the entry.
+pub mod Events
 pub mod Called
 pub mod Started

@@ -1,46 +1,37 @@
--- Start memory: what is written for each shuttle, what the start answers, and that it is memory to keep promises of.
-use Rattle.std.proofs.Common.{◌≡◌, ℕ, suc, ◌+◌, ◌*◌, ◌≤◌, true, false, List, [], ◌++◌, length, take, drop, sym, refl, ap, ◌∙◌, subst, add-zero, arith}
-use Rattle.std.proofs.lemmas.List.{take-append-drop}
+-- What the start answers, and that it leaves memory to keep promises of.
+use Rattle.std.proofs.Common.{◌≡◌, ℕ, suc, ◌+◌, ◌*◌, true, false, List, [], length, sym, refl, subst, arith}
 use Rattle.std.proofs.lemmas.Bool.{eq-eqb, ne_eqb}
-use Rattle.rules.specs.Field.{Field}
-use Rattle.rules.specs.Shuttle.{at_home}
-use Rattle.rules.specs.Memory.{field_in, field_ok, stored, started}
-use Rattle.calls.specs.Call.{Played, begun, Reached, Promised}
+use Rattle.rules.specs.Memory.{FieldNumbers, field_in, field_ok, started}
+use Rattle.calls.specs.Call.{Played, begun, Reached}
 use Rattle.calls.proofs.Keep.{keeps_promises}
-use Rattle.safety.specs.Shuttles.{headed}
-use Rattle.safety.proofs.Writing.{stored_is}
-use Rattle.hall.specs.Start.{start_refusal, StartLeft, StartSays}
+use Rattle.hall.specs.Start.{start_refusal, StartLeft, StartAnswered}
 
--- the numbers of a shuttle at home need no place for what is left
-pub home_is : (f : Field) (m : List ℕ) (i : ℕ) → 260 * i + 4 ≤ length m → headed m (260 * i) (f.bay i) false (f.bay i) 0 ≡ stored m i (at_home f i)
-unfolding at_home
-home_is f m i l =
-    let h = headed m (260 * i) (f.bay i) false (f.bay i) 0 in
-    sym (stored_is m i (at_home f i) (omega arith) ∙ ap (λ k. take (260 * i + 4) h ++ drop k h) (add-zero (260 * i + 4)) ∙ take-append-drop (260 * i + 4) h)
-
-module _ (a d : ℕ) (ws bs m : List ℕ) where
-  pub no_field : field_ok a d ws bs ≡ false → start_refusal a d ws bs m ≡ 1
+module _ (lent : FieldNumbers) (m : List ℕ) where
+  pub no_field : field_ok lent ≡ false → start_refusal lent m ≡ 1
   unfolding start_refusal
   no_field h = rw h
 
-  pub no_memory : field_ok a d ws bs ≡ true → (length m ≡ 260 * length bs → ⊥) → start_refusal a d ws bs m ≡ 2
+  pub no_memory : field_ok lent ≡ true → (length m ≡ 260 * length lent.bays → ⊥) → start_refusal lent m ≡ 2
   unfolding start_refusal
-  no_memory h ne = let other = ne_eqb (length m) (260 * length bs) ne in rw (h, other)
+  no_memory h ne = let other = ne_eqb (length m) (260 * length lent.bays) ne in rw (h, other)
 
-  pub both : field_ok a d ws bs ≡ true → length m ≡ 260 * length bs → start_refusal a d ws bs m ≡ 0
+  pub both : field_ok lent ≡ true → length m ≡ 260 * length lent.bays → start_refusal lent m ≡ 0
   unfolding start_refusal
-  both h long = let same = eq-eqb (length m) (260 * length bs) long in rw (h, same)
+  both h long = let same = eq-eqb (length m) (260 * length lent.bays) long in rw (h, same)
 
-  pub start_refused : (k : ℕ) → start_refusal a d ws bs m ≡ suc k → StartSays a d ws bs m (16 + suc k) m
+  pub start_refused : (k : ℕ) → start_refusal lent m ≡ suc k → StartAnswered lent m (16 + suc k) m
   unfolding StartLeft
-  start_refused k e = subst (λ k'. StartLeft k' a d ws bs m (16 + suc k) m) (sym e) (refl, refl)
+  start_refused k e =
+      let says : StartLeft (suc k) lent m (16 + suc k) m = (refl, refl) in
+      record { says = subst (λ q. StartLeft q lent m (16 + suc k) m) (sym e) says; begins = λ z. absurd (omega arith) }
 
-  module _ (ok : field_ok a d ws bs ≡ true) (long : length m ≡ 260 * length bs) (m₁ : List ℕ)
-      (is : m₁ ≡ started (field_in a d ws bs) (length bs) m) where
-    pub start_done : StartSays a d ws bs m 0 m₁
-    unfolding StartLeft
-    start_done = subst (λ k. StartLeft k a d ws bs m 0 m₁) (sym (both ok long)) (refl, is)
-
-    pub start_reached : Reached a d ws bs m₁ × Promised a d ws bs m₁
-    start_reached =
-        let p : Reached a d ws bs m₁ = ([], subst (Played a d ws bs []) (sym is) (begun m ok long)) in (p, keeps_promises a d ws bs m₁ p)
+  pub start_done : field_ok lent ≡ true → length m ≡ 260 * length lent.bays → (m₁ : List ℕ)
+      → m₁ ≡ started (field_in lent) (length lent.bays) m → StartAnswered lent m 0 m₁
+  unfolding StartLeft
+  start_done ok long m₁ is =
+      let says : StartLeft 0 lent m 0 m₁ = (refl, is) in
+      let p : Reached lent m₁ = ([], subst (Played lent []) (sym is) (begun m ok long)) in
+      record {
+        says = subst (λ q. StartLeft q lent m 0 m₁) (sym (both ok long)) says;
+        begins = λ _. (p, keeps_promises lent m₁ p);
+      }

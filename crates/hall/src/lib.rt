@@ -1,14 +1,16 @@
 // What happens in the hall, one event after the other, over memory that is lent.
 #![tactic(auto)]
 
+mod calling;
 mod done;
 mod entry;
 mod event;
-mod moving;
 mod starting;
+mod taking;
 
+pub use calling::call;
 pub use done::Done;
 pub use entry::happen;
 pub use event::Event;
-pub use moving::{take_arrival, write_step};
 pub use starting::start;
+pub use taking::take_arrival;

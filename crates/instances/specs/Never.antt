@@ -22,5 +22,5 @@ BlockedPairNeverComesAbout =
 -- a shuttle in its bay blocks nobody: in every sound field nobody else's route leads over that bay
 abbrev pub NoRouteOverOtherBays : Type 0
 NoRouteOverOtherBays =
-    (f : Field) (i j c : ℕ) (r : List ℕ) → sound f ≡ true → i < f.shuttles → j < f.shuttles → (j ≢ i)
+    (f : Field) (i j c : ℕ) (r : List ℕ) → sound f ≡ true → i < f.shuttles → j < f.shuttles → j ≢ i
     → route_ok f i c r ≡ true → among (f.bay j) r ≡ false

@@ -1,6 +1,6 @@
 -- What each event keeps: each shuttle is where it may be, no two hold a square together, and everybody can go.
 use Rattle.std.proofs.Common.{◌≡◌, ℕ, ◌<◌, ◌≤◌, true, false, ◌||◌, eqb, List, [], ◌∷◌, length, sym, refl, ◌∙◌, subst, ⊎_elim, arith}
-use Rattle.std.proofs.lemmas.Bool.{cases_eq, both_ways, and_parts, and_from, not-true, not_from_false, ltb-true, lt-ltb, leb-true, le-leb, cond_both}
+use Rattle.std.proofs.lemmas.Bool.{cases_eq, both_ways, and_parts, and_from, not-true, not_from_false, ltb-true, lt-ltb, leb-true, le-leb, cond_both, false_from_ne_true}
 use Rattle.std.proofs.lemmas.Bool.Decides.{nat_tests}
 use Rattle.rules.specs.Tests.{among, is_empty}
 use Rattle.rules.specs.Field.{Field, sound}
@@ -10,7 +10,6 @@ use Rattle.rules.specs.Event.{Event, order, step, arrive, takes, grants, arrives
 use Rattle.agents.specs.Numbers.{among as is_in, meets, Within}
 use Rattle.agents.specs.Going.{goes}
 use Rattle.agents.specs.Kinds.{put as with_agent, may, GoesUnder, AllGo, Apart}
-use Rattle.agents.proofs.Tests.{false_from}
 use Rattle.agents.proofs.Fleets.{put_each}
 use Rattle.agents.proofs.Changes.{meets_within, kept_less, kept_aside, goes_last, apart_put}
 use Rattle.agents.proofs.Grants.{may_is, granted_apart}
@@ -77,7 +76,7 @@ module _ (f : Field) (g : Fleet) (p : Good f g) (i : ℕ) (l : i < f.shuttles) w
   -- one that stands where it was holds no more than it held
   apart_stands : (s : Shuttle) → s.at ≡ (g i).at → s.moving ≡ false → Apart shuttles f.shuttles (with_agent g i s)
   unfolding is_in
-  apart_stands s e m = apart_put shuttles f.shuttles g i s p.apart (λ j k ne. false_from _ (λ h.
+  apart_stands s e m = apart_put shuttles f.shuttles g i s p.apart (λ j k ne. false_from_ne_true _ (λ h.
       both_ways _ (p.apart i l j k ne)
       (meets_within (shuttles.held (g j)) (shuttles.held s) (shuttles.held (g j)) (shuttles.held (g i)) (λ _ a. a)
       (λ c a. grind (arith, nat_tests)) h)))
@@ -89,7 +88,7 @@ module _ (f : Field) (g : Fleet) (p : Good f g) (i : ℕ) (l : i < f.shuttles) w
       let s = ordered (g i) r in
       let n = f.shuttles in
       let aside : (j : ℕ) → j < n → (j ≡ i → ⊥) →
-      meets (shuttles.settled s) (g j).route ≡ false = λ j m ne. false_from _
+      meets (shuttles.settled s) (g j).route ≡ false = λ j m ne. false_from_ne_true _
       (λ h. ne (route_avoids f ok j i m l (g j).at (g j).route (p.each j m).on_route
       (subst (λ c. among c (g j).route ≡ true) (idle_home (p.each i l) t.nothing_left)
       (sym (one_meets (g i).at (g j).route) ∙ h)))) in
@@ -136,7 +135,7 @@ module _ (f : Field) (ok : sound f ≡ true) where
   unfolding at_home is_in among
   good_home = record {
     each = placed_home f ok;
-    apart = λ i l j m ne. false_from _
+    apart = λ i l j m ne. false_from_ne_true _
         (λ h. ne (bays_differ f ok i j l m
         (let h' : (eqb (f.bay i) (f.bay j) || false) ≡ true = sym (meets_one (f.bay j ∷ []) (f.bay i)) ∙ h in
         grind (arith, nat_tests))));

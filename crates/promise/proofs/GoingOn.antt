@@ -1,6 +1,6 @@
 -- A fleet as it always is goes on: somebody moves or is granted a step, orders are taken, and a step is refused only for a reason.
 use Rattle.std.proofs.Common.{◌≡◌, ℕ, ◌<◌, true, false, ◌⊎◌, [], ◌∷◌, sym, refl, ap, ◌∙◌, subst, inl, inr, ⊎_elim, arith}
-use Rattle.std.proofs.lemmas.Bool.{both_ways, and_cases, not-false, lt-ltb, cond-true}
+use Rattle.std.proofs.lemmas.Bool.{both_ways, and_cases, not-false, lt-ltb, cond-true, cond-false, false_from_ne_true}
 use Rattle.std.proofs.lemmas.Bool.Decides.{nat_tests}
 use Rattle.rules.specs.Tests.{among, is_empty}
 use Rattle.rules.specs.Field.{Field, sound}
@@ -9,7 +9,7 @@ use Rattle.rules.specs.Shuttle.{Fleet, put, ordered, next_square, stepped}
 use Rattle.rules.specs.Event.{Event, order, takes, grants, does, who, becomes, happens, after}
 use Rattle.agents.specs.Numbers.{among as is_in}
 use Rattle.agents.specs.Kinds.{put as with_agent, blocks}
-use Rattle.agents.proofs.Tests.{some_below, false_from, meets_from}
+use Rattle.agents.proofs.Tests.{some_below, meets_from}
 use Rattle.agents.proofs.Going.{below}
 use Rattle.agents.proofs.Fleets.{put_here}
 use Rattle.agents.proofs.Grants.{some_goes}
@@ -37,7 +37,7 @@ always_placed f es i ok l = (good_after f ok es).each i l
 module _ (f : Field) (ok : sound f ≡ true) (g : Fleet) (p : Good f g) where
   -- one with nothing left blocks nobody, as its bay is on no other's route
   idle_blocks : (i j : ℕ) → i < f.shuttles → j < f.shuttles → (i ≡ j → ⊥) → is_empty (g j).route ≡ true → blocks shuttles g i j ≡ false
-  idle_blocks i j l m ne e = false_from _ (λ h.
+  idle_blocks i j l m ne e = false_from_ne_true _ (λ h.
       ne (route_avoids f ok i j l m (g i).at (g i).route (p.each i l).on_route
       (subst (λ c. among c (g i).route ≡ true) (idle_home (p.each j m) e) (sym (blocks_is g i j) ∙ h))))
 
@@ -70,6 +70,11 @@ never_stuck f es i ok l e = goes_on f ok (after f es) (good_after f ok es) i l e
 pub done : (f : Field) (g : Fleet) (e : Event) → does f g e ≡ true → happens f g e ≡ put g (who e) (becomes e (g (who e)))
 unfolding happens
 done f g e h = cond-true (does f g e) _ g h
+
+-- what does not happen changes nothing
+pub not_done : (f : Field) (g : Fleet) (e : Event) → does f g e ≡ false → happens f g e ≡ g
+unfolding happens
+not_done f g e h = cond-false (does f g e) _ _ h
 
 pub always_taken : AlwaysTaken
 unfolding after does who becomes put with_agent ordered

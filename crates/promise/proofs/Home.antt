@@ -1,7 +1,6 @@
 -- All come home: what is left falls with each step and arrival, and where none can be made all are home.
 use Rattle.std.proofs.Common.{◌≡◌, ℕ, suc, ◌+◌, ◌<◌, true, false, cond, ◌⊎◌, List, [], ◌∷◌, ◌++◌, length, sym, refl, ap, ◌∙◌, inl, inr, ⊎_elim, arith}
 use Rattle.std.proofs.lemmas.Bool.{both_ways, cases_Bool, and_cases, lt-ltb}
-use Rattle.std.proofs.lemmas.List.{nil_from_length}
 use Rattle.rules.specs.Tests.{is_empty}
 use Rattle.rules.specs.Field.{Field, sound}
 use Rattle.rules.specs.Shuttle.{Shuttle, Fleet, put, at_home, arrived}
@@ -87,7 +86,7 @@ module _ (f : Field) (ok : sound f ≡ true) (g : Fleet) (p : Good f g) where
       (goes_on f ok g p i l e)))
       (cases_Bool (is_empty (g i).route)) in
       let at = idle_home (p.each i l) idle in
-      same_shuttle (g i) (at_home f i) at (stands i l) ((p.each i l).stands_on (stands i l) ∙ at) (nil_from_length _ (empty_tells _ idle))
+      same_shuttle (g i) (at_home f i) at (stands i l) ((p.each i l).stands_on (stands i l) ∙ at) (empty_tells _ idle)
 
 pub ends_home : EndsHome
 ends_home f es ok s a = all_home f ok (after f es) (good_after f ok es) s a

@@ -2,6 +2,7 @@
 use Rattle.std.proofs.Common.{◌≡◌, ℕ, zero, suc, ◌+◌, ◌<◌, Bool, true, false, not, ◌||◌, eqb, ◌⊎◌, List, [], ◌∷◌, ◌++◌, Decides, sym, refl, ap, ◌∙◌, subst, inl, inr, ⊎_elim, arith}
 use Rattle.std.proofs.lemmas.Bool.{cases_Bool, both_ways, eq-eqb, ne_eqb}
 use Rattle.std.proofs.lemmas.Bool.Decides.{nat_tests}
+use Rattle.std.specs.Cmp.{both_ways as same_test}
 use Rattle.rules.specs.Tests.{among, is_empty, any_to}
 use Rattle.rules.specs.Shuttle.{Shuttle, Fleet, holds, held_by_other, put, next_square, stepped}
 use Rattle.rules.specs.Safe.{clear_of, Runs, none, first, all_to, Safe, without, first_clear, on_first, try, safe}
@@ -10,7 +11,6 @@ use Rattle.agents.specs.Numbers.{among as is_in, meets, all_below, all_to as num
 use Rattle.agents.specs.Going.{nobody, clear, take_out, left_over, OthersGo, NoneFree}
 use Rattle.agents.specs.Orders.{Runs as Goes, none as no_one, first as then_first, try as tries}
 use Rattle.agents.specs.Kinds.{put as with_agent, sum_to as sum_of, blocks, may, free_for, all_go, keeps, AllGo}
-use Rattle.agents.proofs.Tests.{same_test}
 use Rattle.agents.proofs.Taking.{stays}
 use Rattle.agents.proofs.Orders.{tries_exactly, tries_all_go, set_tries}
 use Rattle.agents.proofs.Grants.{all_go_is}

@@ -11,7 +11,7 @@ use Rattle.rules.specs.Event.{Event, order, step, arrive, takes, grants, does, a
 -- no two shuttles ever hold a square together
 abbrev pub Apart : Type 0
 Apart =
-    (f : Field) (es : List Event) (i j c : ℕ) → sound f ≡ true → i < f.shuttles → j < f.shuttles → (i ≢ j)
+    (f : Field) (es : List Event) (i j c : ℕ) → sound f ≡ true → i < f.shuttles → j < f.shuttles → i ≢ j
     → holds (after f es i) c ≡ true → holds (after f es j) c ≢ true
 
 -- some shuttle is on its way

@@ -1,8 +1,8 @@
 // Routes, judged step by step.
 #![tactic(auto)]
 
+mod fault;
 mod steps;
-mod verdict;
 
+pub use fault::Fault;
 pub use steps::judge;
-pub use verdict::Verdict;

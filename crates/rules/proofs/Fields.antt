@@ -1,10 +1,10 @@
 -- What an accepted field tells.
-use Rattle.std.proofs.Common.{◌≡◌, ℕ, ◌*◌, ◌<◌, ◌≤◌, true, false, eqb, leb, List, length}
+use Rattle.std.proofs.Common.{◌≡◌, ℕ, ◌*◌, ◌<◌, ◌≤◌, true, false, eqb, leb, length}
 use Rattle.std.proofs.lemmas.Nat.{mul-le}
 use Rattle.std.proofs.lemmas.Bool.{and_parts, leb-true, eqb-true, not-true}
 use Rattle.rules.specs.Tests.{every}
 use Rattle.rules.specs.Field.{Field, sound, bay_ok, free_square, is_bay_to}
-use Rattle.rules.specs.Memory.{field_in, field_ok}
+use Rattle.rules.specs.Memory.{FieldNumbers, field_in, field_ok}
 use Rattle.rules.proofs.Tests.{every_to_tells}
 
 -- a sound field has a square, and each bay is a free square and no earlier bay
@@ -28,27 +28,27 @@ sound_tells f h =
     }
 
 -- the parts of an accepted field
-pub record Accepted (a d : ℕ) (ws bs : List ℕ) : Type 0 where
-  pub across_most : a ≤ 64
-  pub down_most : d ≤ 64
-  pub walls_long : length ws ≡ a * d
-  pub are_marks : every (λ w. leb w 1) ws ≡ true
-  pub few : length bs ≤ 16
-  pub is_sound : sound (field_in a d ws bs) ≡ true
-  pub across_least : 1 ≤ a
-  pub down_least : 1 ≤ d
-  pub squares_least : 1 ≤ a * d
-  pub squares_most : a * d ≤ 4096
+pub record Accepted (lent : FieldNumbers) : Type 0 where
+  pub across_most : lent.across ≤ 64
+  pub down_most : lent.down ≤ 64
+  pub walls_long : length lent.walls ≡ lent.across * lent.down
+  pub are_marks : every (λ w. leb w 1) lent.walls ≡ true
+  pub few : length lent.bays ≤ 16
+  pub is_sound : sound (field_in lent) ≡ true
+  pub across_least : 1 ≤ lent.across
+  pub down_least : 1 ≤ lent.down
+  pub squares_least : 1 ≤ lent.across * lent.down
+  pub squares_most : lent.across * lent.down ≤ 4096
 
-pub accepted : (a d : ℕ) (ws bs : List ℕ) → field_ok a d ws bs ≡ true → Accepted a d ws bs
+pub accepted : (lent : FieldNumbers) → field_ok lent ≡ true → Accepted lent
 unfolding field_ok field_in
-accepted a d ws bs h =
-    let p1 = and_parts (leb a 64) _ h in
-    let p2 = and_parts (leb d 64) _ p1.1 in
-    let p3 = and_parts (eqb (length ws) (a * d)) _ p2.1 in
-    let p4 = and_parts (every (λ w. leb w 1) ws) _ p3.1 in
-    let p5 = and_parts (leb (length bs) 16) _ p4.1 in
-    let s = sound_tells (field_in a d ws bs) p5.1 in
+accepted lent h =
+    let p1 = and_parts (leb lent.across 64) _ h in
+    let p2 = and_parts (leb lent.down 64) _ p1.1 in
+    let p3 = and_parts (eqb (length lent.walls) (lent.across * lent.down)) _ p2.1 in
+    let p4 = and_parts (every (λ w. leb w 1) lent.walls) _ p3.1 in
+    let p5 = and_parts (leb (length lent.bays) 16) _ p4.1 in
+    let s = sound_tells (field_in lent) p5.1 in
     record {
       across_most = leb-true _ _ p1.0;
       down_most = leb-true _ _ p2.0;
@@ -58,6 +58,6 @@ accepted a d ws bs h =
       is_sound = p5.1;
       across_least = s.wide;
       down_least = s.deep;
-      squares_least = mul-le 1 1 a d s.wide s.deep;
-      squares_most = mul-le a d 64 64 (leb-true _ _ p1.0) (leb-true _ _ p2.0);
+      squares_least = mul-le 1 1 lent.across lent.down s.wide s.deep;
+      squares_most = mul-le lent.across lent.down 64 64 (leb-true _ _ p1.0) (leb-true _ _ p2.0);
     }

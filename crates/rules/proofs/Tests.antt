@@ -5,6 +5,10 @@ use Rattle.std.proofs.lemmas.List.{take_more, take_all}
 use Rattle.std.proofs.lemmas.Bool.Decides.{nat_tests, Decides-below_and, Decides-below_or}
 use Rattle.rules.specs.Tests.{every_to, any_to, every, among, is_empty}
 
+-- of two tests of which the first holds the second decides
+pub and_true : (x y : Bool) → x ≡ true → (x && y) ≡ y
+and_true x y h = rw h
+
 pub every_to_tells : (p : ℕ → Bool) (n : ℕ) → every_to p n ≡ true → (k : ℕ) → k < n → p k ≡ true
 unfolding every_to
 every_to_tells p n h = (Decides-below_and p (λ k. p k ≡ true) (every_to p) (λ k. (λ e. e, λ e. e)) refl (λ _. refl) n).0 h
@@ -20,10 +24,6 @@ any_to_tells p n h = (Decides-below_or p (λ k. p k ≡ true) (any_to p) (λ k. 
 pub any_to_from : (p : ℕ → Bool) (n k : ℕ) → k < n → p k ≡ true → any_to p n ≡ true
 unfolding any_to
 any_to_from p n k l h = (Decides-below_or p (λ k. p k ≡ true) (any_to p) (λ k. (λ e. e, λ e. e)) refl (λ _. refl) n).1 (k, l, h)
-
-pub any_to_none : (p : ℕ → Bool) (n : ℕ) → any_to p n ≡ false → (k : ℕ) → k < n → p k ≡ false
-any_to_none p n h k l =
-    ⊎_elim (λ e. absurd (both_ways (any_to p n) h (any_to_from p n k l e))) (λ e. e) (cases_Bool (p k))
 
 pub any_to_nowhere : (p : ℕ → Bool) (n : ℕ) → ((k : ℕ) → k < n → p k ≡ false) → any_to p n ≡ false
 any_to_nowhere p n h =
@@ -93,8 +93,13 @@ among_from x [] k l e = absurd (omega arith)
 among_from x (y ∷ ys) zero l e = grind (arith, nat_tests)
 among_from x (y ∷ ys) (suc k) l e = or_right (eqb x y) (among x ys) (among_from x ys k (omega arith) e)
 
--- emptiness, by the length
-pub empty_tells : (xs : List ℕ) → is_empty xs ≡ true → length xs ≡ 0
+pub among_append : (x : ℕ) (xs ys : List ℕ) → among x (xs ++ ys) ≡ (among x xs || among x ys)
+unfolding among
+among_append x [] ys = refl
+among_append x (y ∷ xs) ys = let ih = among_append x xs ys in grind (arith, nat_tests, ih)
+
+-- emptiness, and by the length
+pub empty_tells : (xs : List ℕ) → is_empty xs ≡ true → xs ≡ []
 unfolding is_empty
 empty_tells [] h = refl
 empty_tells (x ∷ xs) h = absurd (both_ways false refl h)

@@ -5,22 +5,40 @@ use Rattle.rules.specs.Field.{Field, sound}
 use Rattle.rules.specs.Shuttle.{Shuttle, at_home}
 use Rattle.rules.specs.Event.{Event, order, step, arrive}
 
--- a field in numbers: a mark of 1 is a wall, and bay i is shuttle i's
-unfoldable pub field_in : (across down : ℕ) → (walls bays : List ℕ) → Field
-field_in a d ws bs = record { across = a; down = d; wall = λ c. (slice_index ws c == 1); shuttles = length bs; bay = λ i. slice_index bs i }
+-- a field in numbers, as it is lent: so many squares across and down, a mark for each square, row by row, and each shuttle's bay
+pub record FieldNumbers : Type 0 where
+  pub across : ℕ
+  pub down : ℕ
+  pub walls : List ℕ
+  pub bays : List ℕ
+
+-- these numbers, in the order in which they are handed over
+abbrev pub field_numbers : (across down : ℕ) → (walls bays : List ℕ) → FieldNumbers
+field_numbers a d ws bs = record { across = a; down = d; walls = ws; bays = bs }
+
+-- the field that they are: a mark of 1 is a wall, and bay i is shuttle i's
+unfoldable pub field_in : FieldNumbers → Field
+field_in lent =
+    record {
+      across = lent.across;
+      down = lent.down;
+      wall = λ c. slice_index lent.walls c == 1;
+      shuttles = length lent.bays;
+      bay = λ i. slice_index lent.bays i;
+    }
 
 -- a field that is accepted: at most 64 across and down, a mark of 0 or 1 for each square, at most 16 bays, and sound
-unfoldable pub field_ok : (across down : ℕ) → (walls bays : List ℕ) → Bool
-field_ok a d ws bs =
-    nat_le a 64 && (nat_le d 64 && (length ws == a * d && (every (λ w. nat_le w 1) ws
-    && (nat_le (length bs) 16 && sound (field_in a d ws bs)))))
+unfoldable pub field_ok : FieldNumbers → Bool
+field_ok lent =
+    nat_le lent.across 64 && (nat_le lent.down 64 && (length lent.walls == lent.across * lent.down
+    && (every (λ w. nat_le w 1) lent.walls && (nat_le (length lent.bays) 16 && sound (field_in lent)))))
 
 -- memory: of each shuttle its square, 1 if it moves, the square behind, how long what is left is, and 256 places for what is left
 unfoldable pub shuttle_in : List ℕ → ℕ → Shuttle
 shuttle_in m i =
     record {
       at = slice_index m (260 * i);
-      moving = (slice_index m (260 * i + 1) == 1);
+      moving = slice_index m (260 * i + 1) == 1;
       behind = slice_index m (260 * i + 2);
       route = take (slice_index m (260 * i + 3)) (drop (260 * i + 4) m);
     }
@@ -32,9 +50,9 @@ shuttle_ok squares m i =
     && (nat_lt (slice_index m (260 * i)) squares && (nat_lt (slice_index m (260 * i + 2)) squares
     && every (λ c. nat_lt c squares) (take (slice_index m (260 * i + 3)) (drop (260 * i + 4) m)))))
 
--- memory that is accepted for n shuttles on so many squares
-unfoldable pub memory_ok : (squares n : ℕ) → List ℕ → Bool
-memory_ok squares n m = length m == 260 * n && every_to (shuttle_ok squares m) n
+-- memory that is accepted for the shuttles and the squares of a field
+unfoldable pub memory_ok : FieldNumbers → List ℕ → Bool
+memory_ok lent m = length m == 260 * length lent.bays && every_to (shuttle_ok (lent.across * lent.down) m) (length lent.bays)
 
 -- an event in numbers that is accepted: a kind of 0 to 2, a shuttle that is there, a route of at most 256 squares, none above 4095
 unfoldable pub event_ok : (n kind shuttle : ℕ) → List ℕ → Bool
@@ -47,9 +65,8 @@ event_in (suc zero) i r = step i
 event_in (suc (suc k)) i r = arrive i
 
 -- the number by which a call is turned away, the first that applies: 1 the field, 2 memory, 3 the event; 0 if it is not
-unfoldable pub refusal : (across down : ℕ) → (walls bays memory : List ℕ) → (kind shuttle : ℕ) → (route : List ℕ) → ℕ
-refusal a d ws bs m kind i r =
-    cond (field_ok a d ws bs) (cond (memory_ok (a * d) (length bs) m) (cond (event_ok (length bs) kind i r) 0 3) 2) 1
+unfoldable pub refusal : FieldNumbers → (memory : List ℕ) → (kind shuttle : ℕ) → (route : List ℕ) → ℕ
+refusal lent m kind i r = cond (field_ok lent) (cond (memory_ok lent m) (cond (event_ok (length lent.bays) kind i r) 0 3) 2) 1
 
 -- 1 for a shuttle that moves, else 0
 unfoldable pub mark : Bool → ℕ

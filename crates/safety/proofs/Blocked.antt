@@ -9,9 +9,10 @@ use Rattle.rules.specs.Safe.{safe}
 use Rattle.agents.specs.Going.{CanGo, nobody as no_one}
 use Rattle.agents.proofs.Going.{kept_fewer}
 use Rattle.promise.proofs.Shuttles.{blocks_is, safe_all_go}
-use Rattle.safety.specs.declared.shuttle.Shuttle.{Shuttle as Kept}
+use Rattle.memory.specs.declared.shuttle.Shuttle.{Shuttle as Kept}
 use Rattle.safety.specs.Masks.{has, met}
-use Rattle.safety.specs.Shuttles.{nobody, fleet_of}
+use Rattle.safety.specs.Fleets.{fleet_of}
+use Rattle.memory.specs.Shuttles.{nobody}
 use Rattle.safety.proofs.Standing.{Stands, met_is}
 
 -- a table that is made of nothing but 0

@@ -1,28 +1,32 @@
 -- What is known of a fleet of the code, since its shuttles fit into memory.
-use Rattle.std.proofs.Common.{◌≡◌, ℕ, ◌-◌, ◌<◌, ◌≤◌, true, eqb, ltb, leb, List, length, get_or, take, drop, set, sym, ap, ◌∙◌, ⊎_elim, arith}
+use Rattle.std.proofs.Common.{◌≡◌, ℕ, ◌+◌, ◌*◌, ◌<◌, ◌≤◌, true, eqb, ltb, leb, List, ◌++◌, length, get_or, take, drop, set, replicate, sym, ap, ◌∙◌, ⊎_elim, arith}
 use mathlib.Core.Path.{fun_ext}
-use Rattle.std.proofs.lemmas.List.{length-set, get_or-set_same, get_or-set_other}
-use Rattle.std.proofs.lemmas.Bool.{and_parts, and_from, leb-true, ltb-true, eqb-true, eq-eqb, ne_eqb, le-leb, cases_eq, cond-true, cond-false}
+use Rattle.std.proofs.lemmas.List.{length-set, get_or-set_same, get_or-set_other, get_or_past, get_or_append_left, get_or-append_right, get_or-take, get_or-drop, get_or-replicate, length-append, length-drop, length-replicate}
+use Rattle.std.proofs.lemmas.Bool.{and_parts, and_from, leb-true, ltb-true, lt-ltb, eqb-true, eq-eqb, ne_eqb, le-leb, cases_eq, cases_lt, cond-true, cond-false}
 use Rattle.rules.specs.Tests.{every, every_to}
 use Rattle.rules.specs.Shuttle.{put}
-use Rattle.rules.proofs.Tests.{every_to_tells, every_to_from}
-use Rattle.safety.specs.declared.shuttle.Shuttle.{Shuttle as Kept}
+use Rattle.rules.specs.Memory.{memory_ok, shuttle_in}
+use Rattle.rules.proofs.Tests.{every_to_tells, every_to_from, every_imp}
+use Rattle.rules.proofs.Memory.{ok_fits, accepted_memory, accepted_room}
+use Rattle.field.specs.Model.{numbers_in}
+use Rattle.field.specs.declared.field.Field.{Field as Lent}
+use Rattle.field.proofs.Facts.{facts}
+use Rattle.memory.specs.declared.shuttle.Shuttle.{Shuttle as Kept}
+use Rattle.memory.specs.Shuttles.{nobody, shuttle_of, kept_at}
 use Rattle.safety.specs.declared.fleet.Fleet.{Fleet as Held}
-use Rattle.safety.specs.Shuttles.{nobody, shuttle_of, fleet_of, fits_in, all_fit}
+use Rattle.safety.specs.Fleets.{fleet_of, fits_in, all_fit}
 
 pub record Fitting (m : List ℕ) (s : Kept) : Type 0 where
   pub here : s.at < 4096
-  pub forward : s.from ≤ s.to
-  pub within : s.to ≤ length m
-  pub squares : every (λ c. ltb c 4096) (take (s.to - s.from) (drop s.from m)) ≡ true
+  pub within : s.from + s.left ≤ length m
+  pub squares : every (λ c. ltb c 4096) (take s.left (drop s.from m)) ≡ true
 
 pub fits_tells : (m : List ℕ) (s : Kept) → fits_in m s ≡ true → Fitting m s
 unfolding fits_in
 fits_tells m s h =
     let p = and_parts (ltb s.at 4096) _ h in
-    let q = and_parts (leb s.from s.to) _ p.1 in
-    let r = and_parts (leb s.to (length m)) _ q.1 in
-    record { here = ltb-true _ _ p.0; forward = leb-true _ _ q.0; within = leb-true _ _ r.0; squares = r.1 }
+    let q = and_parts (leb (s.from + s.left) (length m)) _ p.1 in
+    record { here = ltb-true _ _ p.0; within = leb-true _ _ q.0; squares = q.1 }
 
 -- the parts of what is known of the whole
 record Parts (f : Held) : Type 0 where
@@ -54,6 +58,18 @@ each_fits f = every_to_tells (λ i. fits_in f.memory.now (get_or f.shuttles i no
 pub fitting : (f : Held) (i : ℕ) → i < f.count → Fitting f.memory.now (get_or f.shuttles i nobody)
 fitting f i l = fits_tells f.memory.now (get_or f.shuttles i nobody) (each_fits f i l)
 
+-- one of the shuttles that are there
+pub record Item (f : Held) (ss : List Kept) (i : ℕ) : Type 0 where
+  pub there : i < f.count
+  pub is : get_or ss i nobody ≡ get_or f.shuttles i nobody
+  pub fits : Fitting f.memory.now (get_or ss i nobody)
+
+pub item : (f : Held) (ss : List Kept) → length ss ≡ f.count → ss ≡ take f.count f.shuttles → (i : ℕ) → i < length ss → Item f ss i
+item f ss long first i l =
+    let there : i < f.count = omega arith in
+    let is = ap (λ xs. get_or xs i nobody) first ∙ get_or-take f.count f.shuttles i nobody there in
+    record { there = there; is = is; fits = rw is (fitting f i there) }
+
 -- the fleet with one shuttle in place of another that fits
 pub fits_put : (f : Held) (i : ℕ) (s : Kept) → i < f.count → fits_in f.memory.now s ≡ true → all_fit (set f.shuttles i s) f.count f.memory.now ≡ true
 unfolding all_fit
@@ -76,3 +92,59 @@ fleet_put ss m i s l =
     ∙ sym (cond-true (eqb j i) (shuttle_of m s) (fleet_of ss m j) (eq-eqb j i e)))
     (λ ne. ap (shuttle_of m) (get_or-set_other ss i j s nobody ne) ∙ sym (cond-false (eqb j i) (shuttle_of m s) (fleet_of ss m j) (ne_eqb j i ne)))
     (cases_eq j i))
+
+-- a shuttle of accepted memory fits
+pub kept_fits : (f : Lent) (m : List ℕ) → memory_ok (numbers_in f) m ≡ true → (i : ℕ) → i < length f.bays.now → fits_in m (kept_at m i) ≡ true
+unfolding fits_in shuttle_in
+kept_fits f m ok i l =
+    let few = (facts f).squares_most in
+    let all = accepted_memory _ _ ok in
+    let long = all.long in
+    let own = ok_fits _ _ i (all.each i l) in
+    let r = accepted_room _ _ ok i in
+    let on : get_or m (260 * i) 0 < 4096 = omega (arith, own.on) in
+    let within : 260 * i + 4 + get_or m (260 * i + 3) 0 ≤ length m = omega arith in
+    and_from _ _ (lt-ltb _ _ on)
+    (and_from _ _ (le-leb _ _ within)
+    (every_imp (λ c. ltb c (f.across * f.down)) (λ c. ltb c 4096) (shuttle_in m i).route
+    (λ c b. let q = ltb-true c (f.across * f.down) b in lt-ltb c 4096 (omega arith)) own.over))
+
+-- past the end of memory nobody is read
+pub nobody_is : (m : List ℕ) (i : ℕ) → length m ≤ 260 * i → shuttle_of m nobody ≡ shuttle_in m i
+unfolding shuttle_in
+nobody_is m i l =
+    let a = get_or_past m (260 * i) 0 l in
+    let b = get_or_past m (260 * i + 1) 0 (omega arith) in
+    let c = get_or_past m (260 * i + 2) 0 (omega arith) in
+    let d = get_or_past m (260 * i + 3) 0 (omega arith) in rw (a, b, c, d)
+
+-- the shuttles that are read of accepted memory, and nobody in the places past them
+module _ (f : Lent) (m : List ℕ) (ok : memory_ok (numbers_in f) m ≡ true) (ss : List Kept) (long : length ss ≡ length f.bays.now)
+    (is : (k : ℕ) → k < length f.bays.now → get_or ss k nobody ≡ kept_at m k) where
+  abbrev sixteen : List Kept
+  sixteen = ss ++ drop (length f.bays.now) (replicate 16 nobody)
+
+  own : (i : ℕ) → i < length f.bays.now → get_or sixteen i nobody ≡ kept_at m i
+  own i l = get_or_append_left ss _ nobody i (omega arith) ∙ is i l
+
+  past : (i : ℕ) → length f.bays.now ≤ i → get_or sixteen i nobody ≡ nobody
+  past i l =
+      get_or-append_right ss _ (length f.bays.now) i nobody long l ∙ get_or-drop (length f.bays.now) (replicate 16 nobody) _ nobody
+      ∙ ⊎_elim (λ b. get_or-replicate 16 _ nobody nobody b)
+      (λ b. get_or_past (replicate 16 nobody) _ nobody (omega (arith, length-replicate 16 nobody))) (cases_lt _ 16)
+
+  pub read_fits : all_fit sixteen (length f.bays.now) m ≡ true
+  unfolding all_fit
+  read_fits =
+      let few = (facts f).few in
+      let near = (accepted_memory _ _ ok).long in
+      let whole : length sixteen ≡ 16 = simp (length-append, length-drop, length-replicate) (omega arith) in
+      and_from _ _ (eq-eqb _ _ whole) (and_from _ _ (le-leb _ _ few) (and_from _ _ (le-leb _ _ (omega arith))
+      (every_to_from _ _ (λ i l. ap (fits_in m) (own i l) ∙ kept_fits f m ok i l))))
+
+  pub read_is : (i : ℕ) → fleet_of sixteen m i ≡ shuttle_in m i
+  unfolding shuttle_in
+  read_is i =
+      let near = (accepted_memory _ _ ok).long in
+      ⊎_elim (λ l. ap (shuttle_of m) (own i l))
+      (λ l. ap (shuttle_of m) (past i l) ∙ nobody_is m i (omega arith)) (cases_lt i (length f.bays.now))

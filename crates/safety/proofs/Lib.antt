@@ -1,9 +1,7 @@
--- Lemmas on masks, on shuttles in memory, and on taking out.
-pub mod Masks
+-- Fleets that fit into memory, masks as sets, tables of who stands where, and rounds of taking out.
 pub mod Fitting
-pub mod Reading
+pub mod Masks
 pub mod Shifts
 pub mod Standing
-pub mod Rounds
 pub mod Blocked
-pub mod Writing
+pub mod Rounds

@@ -1,8 +1,8 @@
 -- Masks as sets: union, one member, and when a set lies within another.
-use Rattle.std.proofs.Common.{◌≡◌, ℕ, zero, suc, ◌+◌, ◌-◌, ◌/◌, ◌%◌, ◌^◌, ◌<◌, true, false, ◌||◌, eqb, sym, refl, ap, ◌∙◌, ⊎_elim, one-mul, one-add, arith}
+use Rattle.std.proofs.Common.{◌≡◌, ℕ, zero, suc, ◌+◌, ◌-◌, ◌/◌, ◌%◌, ◌^◌, ◌<◌, true, false, ◌||◌, eqb, ltb, sym, refl, ap, ◌∙◌, ⊎_elim, one-mul, one-add, arith}
 use lib.Bits.{bit_or, or_step, or_shr, or_zero_l}
 use Rattle.std.proofs.lemmas.Nat.{shr_le, shr-shr, shl-shr, pow-add, pow_pos, pow_below, div_below}
-use Rattle.std.proofs.lemmas.Bool.{cases_order, eq-eqb, ne_eqb}
+use Rattle.std.proofs.lemmas.Bool.{cases_order, eq-eqb, ne_eqb, lt-ltb}
 use Rattle.std.proofs.lemmas.Bool.Decides.{nat_tests}
 use Rattle.safety.specs.Masks.{has}
 
@@ -36,6 +36,17 @@ has_one i j =
 has_half : (a j : ℕ) → has (a / 2) j ≡ has a (suc j)
 unfolding has
 has_half a j = let e = shr-shr a 1 j in let o = one-add j in grind (arith, e, o)
+
+-- the set of the first n
+pub has_below : (n j : ℕ) → has (2 ^ n - 1) j ≡ ltb j n
+unfolding has
+has_below zero j = has_nothing j ∙ grind (arith, nat_tests)
+has_below (suc n) zero =
+    let odd : (2 ^ suc n - 1) / 2 ^ 0 % 2 ≡ 1 = omega (arith, pow_pos n) in
+    eq-eqb _ _ odd ∙ sym (lt-ltb 0 (suc n) (omega arith))
+has_below (suc n) (suc j) =
+    let half : (2 ^ suc n - 1) / 2 ≡ 2 ^ n - 1 = omega (arith, pow_pos n) in
+    sym (has_half (2 ^ suc n - 1) j) ∙ ap (λ a. has a j) half ∙ has_below n j ∙ grind (arith, nat_tests)
 
 -- a set that lies within another adds nothing to it
 pub or_within : (k a b : ℕ) → a < 2 ^ k → ((j : ℕ) → j < k → has a j ≡ true → has b j ≡ true) → bit_or a b ≡ b

@@ -1,5 +1,5 @@
 -- Rounds over sets of blockers: whoever is taken out can go, and where a round takes out nobody, nobody else can.
-use Rattle.std.proofs.Common.{◌≡◌, ℕ, zero, suc, ◌^◌, ◌<◌, ◌≤◌, true, false, not, ◌&&◌, ◌||◌, eqb, List, get_or, sym, refl, ap, ◌∙◌, subst, inr, ⊎_elim, arith}
+use Rattle.std.proofs.Common.{◌≡◌, ℕ, zero, suc, ◌^◌, ◌<◌, ◌≤◌, true, false, not, ◌&&◌, ◌||◌, eqb, List, get_or, sym, refl, ap, ◌∙◌, subst, inr, ⊎_elim, arith, lit<}
 use lib.Bits.{bit_or, or_add_and, and_le_r}
 use Rattle.std.proofs.lemmas.Bool.{cases_Bool, cases_eq, both_ways, eqb-true, eq-eqb, or_cases, or_left, or_right, or_parts, and_parts, not-true}
 use Rattle.std.proofs.lemmas.Bool.Decides.{nat_tests}
@@ -11,6 +11,10 @@ use Rattle.safety.proofs.Masks.{has_or, has_one, or_within}
 -- the set with shuttle i in it
 with_has : (out i j : ℕ) → has (bit_or out (2 ^ i)) j ≡ (has out j || eqb i j)
 with_has out i j = has_or out (2 ^ i) j ∙ ap (λ t. has out j || t) (has_one i j)
+
+below_power : (n : ℕ) → n < 2 ^ n
+below_power zero = lit< tt
+below_power (suc n) = omega (arith, below_power n)
 
 more_or_equal : (a b : ℕ) → a ≤ bit_or a b
 more_or_equal a b = omega (arith, or_add_and a b, and_le_r a b)
@@ -61,21 +65,22 @@ module _ (bs : List ℕ) where
     round_can (suc m) out l all = free_can m (round bs m out) (omega arith) (round_can m out (omega arith) all)
 
     -- where a round takes out nobody, each that is not out is blocked by another that is not out
-    pub round_stuck : ((i : ℕ) → get_or bs i 0 < 2 ^ 16) → ((i j : ℕ) → i < n → has (get_or bs i 0) j ≡ true → j < n) → (out : ℕ)
+    pub round_stuck : ((i j : ℕ) → i < n → has (get_or bs i 0) j ≡ true → j < n) → (out : ℕ)
         → round bs n out ≡ out → NoneFree n (λ i j. has (get_or bs i 0) j) nobody (λ i. not (has out i))
     unfolding round with_free
-    round_stuck small below out fixed i l h =
+    round_stuck below out fixed i l h =
+        let most = get_or bs i 0 in
         let w = bit_or out (2 ^ i) in
         let before = round_fixed n i out (omega arith) fixed in
         let here : with_free bs i out ≡ out = subst (λ t. with_free bs i t ≡ out) before (round_fixed n (suc i) out (omega arith) fixed) in
         let i_out : has out i ≡ false = not-true _ h in
         inr (⊎_elim
-        (λ (t : (j : ℕ) × (j < 16) × ((has (get_or bs i 0) j && not (has w j)) ≡ true)).
+        (λ (t : (j : ℕ) × (j < most) × ((has (get_or bs i 0) j && not (has w j)) ≡ true)).
         let p = and_parts _ _ t.2 in
         let q = or_parts _ _ (sym (with_has out i t.0) ∙ not-true _ p.1) in
         (t.0, below i t.0 l p.0, (λ e. both_ways _ q.1 (eq-eqb _ _ e)), ap not q.0, p.0))
         (λ none.
-        let same : bit_or (get_or bs i 0) w ≡ w = or_within 16 (get_or bs i 0) w (small i) (λ j m g. let z = none j m in grind (arith, nat_tests)) in
+        let same : bit_or (get_or bs i 0) w ≡ w = or_within most (get_or bs i 0) w (below_power most) (λ j m g. let z = none j m in grind (arith, nat_tests)) in
         let taken : w ≡ out = rw (eq-eqb (bit_or (get_or bs i 0) w) w same) at here in
         absurd (both_ways _ i_out (ap (λ t. has t i) (sym taken) ∙ with_has out i i ∙ or_right _ _ (eq-eqb i i refl))))
-        (some_below 16 (λ j. has (get_or bs i 0) j && not (has w j))))
+        (some_below most (λ j. has (get_or bs i 0) j && not (has w j))))

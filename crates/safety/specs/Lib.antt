@@ -1,3 +1,3 @@
--- What the code's shuttles, fleets and masks stand for.
-pub mod Shuttles
+-- What the code's fleets and masks stand for.
+pub mod Fleets
 pub mod Masks

@@ -1,7 +1,12 @@
 -- Lemmas behind the contracts.
-mod Asking
-mod Gather
-mod Places
+mod Backwards
+mod Digits
+mod Led
+mod Letters
+mod Naming
+mod Opening
+mod Reading
 mod Signs
+mod Taking
 mod Told
 mod Turns

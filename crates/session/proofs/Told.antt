@@ -1,52 +1,68 @@
--- What the way answers, at the lists that it was lent.
-use Rattle.std.proofs.Common.{◌≡◌, ℕ, ◌-◌, ◌<◌, true, false, List, ◌++◌, length, get_or, take, drop, sym, ap, ◌∙◌, arith}
+-- What the way answers is what is told.
+use Rattle.std.proofs.Common.{◌≡◌, ℕ, ◌<◌, true, false, inr, List, ◌++◌, length, get_or, take, drop, Some, None, Ok, Err, vec_items, sym, refl, ap, ◌∙◌, arith}
+use Rattle.std.specs.Prelude.{Vec}
+use Rattle.std.specs.Global.{Global}
 use Rattle.std.proofs.lemmas.List.{take_all, take-append-le}
 use Rattle.std.proofs.lemmas.Bool.Decides.{nat_tests}
-use Rattle.rules.specs.Memory.{field_in, field_ok}
+use Rattle.rules.specs.Memory.{FieldNumbers, field_in, field_ok}
 use Rattle.ways.specs.Asked.{asked_ok, way_refusal}
-use Rattle.ways.specs.Shortest.{Shortest, Nowhere}
+use Rattle.field.specs.Refusals.{number_of}
+use Rattle.field.specs.declared.refusal.Refusal.{Refusal}
+use Rattle.field.specs.declared.refusal.Refusal.TheVariants as refusal
 use Rattle.way.specs.Answer.{Answered}
-use Rattle.way.specs.declared.answer.Way.TheVariants as way
-use Rattle.session.specs.Ways.{letters_of}
+use Rattle.session.specs.declared.numbers.Place.{Place}
+use Rattle.session.specs.Ways.{letters_of, squares_at, Told}
 
-asked_true : (a d : ℕ) (ws bs : List ℕ) (i c : ℕ) (row : List ℕ) (n : ℕ) → way_refusal a d ws bs i c row n ≡ 0 → asked_ok (field_in a d ws bs) i c row n ≡ true
+asked_true : (lent : FieldNumbers) (i c : ℕ) (row : List ℕ) (n : ℕ) → way_refusal lent i c row n ≡ 0 → asked_ok (field_in lent) i c row n ≡ true
 unfolding way_refusal
-asked_true a d ws bs i c row n e = grind (arith, nat_tests)
+asked_true lent i c row n e = grind (arith, nat_tests)
 
-asked_false : (a d : ℕ) (ws bs : List ℕ) (i c : ℕ) (row : List ℕ) (n : ℕ) → field_ok a d ws bs ≡ true → i < length bs → 0 < way_refusal a d ws bs i c row n
-    → asked_ok (field_in a d ws bs) i c row n ≡ false
+-- what is not accepted of a shuttle that is there is turned away by 5
+asked_false : (lent : FieldNumbers) (i c : ℕ) (row : List ℕ) (n k : ℕ) → field_ok lent ≡ true → i < length lent.bays → k ≡ way_refusal lent i c row n → 0 < k
+    → (asked_ok (field_in lent) i c row n ≡ false) × (k ≡ 5)
 unfolding way_refusal
-asked_false a d ws bs i c row n ok there e = grind (arith, nat_tests)
+asked_false lent i c row n k ok there e some = (grind (arith, nat_tests), grind (arith, nat_tests))
 
-front : (r xs : List ℕ) (k : ℕ) → length r ≡ k → take (k - 0) (r ++ xs) ≡ r
-front r xs k long = take-append-le (k - 0) r xs (omega arith) ∙ take_all (k - 0) r (omega arith)
+fifth : (r : Refusal) → number_of r ≡ 5 → r ≡ refusal.Way
+fifth refusal.Field e = absurd (omega arith)
+fifth refusal.Memory e = absurd (omega arith)
+fifth refusal.Event e = absurd (omega arith)
+fifth (refusal.Text line) e = absurd (omega arith)
+fifth refusal.Way e = refl
+fifth refusal.Tick e = absurd (omega arith)
 
-module _ (a d : ℕ) (ws ws' bs bs' : List ℕ) (i c : ℕ) (row row' before after : List ℕ) (p : ws' ≡ ws) (q : bs' ≡ bs) (e : c ≡ get_or bs i 0) (r : row' ≡ row) (h : length before ≡ 256) where
-  pub told_along : (letters : List ℕ) (k : ℕ) → Answered a d ws' bs' i c row' before after (way.Found k) → letters ≡ letters_of a c (take (k - 0) after)
-      → (asked_ok (field_in a d ws bs) i (get_or bs i 0) row 256 ≡ true)
-      × ((x : List ℕ) × Shortest (field_in a d ws bs) i (get_or bs i 0) row x × (letters ≡ letters_of a (get_or bs i 0) x))
-  told_along letters k answered is =
-      let there : Answered a d ws bs i (get_or bs i 0) row before after (way.Found k) = rw (p, q, e, r) at answered in
-      let none : way_refusal a d ws bs i (get_or bs i 0) row 256 ≡ 0 = ap (way_refusal a d ws bs i (get_or bs i 0) row) (sym h) ∙ there.0 in (
-        asked_true a d ws bs i (get_or bs i 0) row 256 none,
+front : (r xs : List ℕ) (k : ℕ) → length r ≡ k → take k (r ++ xs) ≡ r
+front r xs k long = take-append-le k r xs (omega arith) ∙ take_all k r (omega arith)
+
+module _ (lent : FieldNumbers) (i c : ℕ) (places : List Place) (row row' before after : List ℕ) (here : i < length lent.bays)
+    (bay : c ≡ get_or lent.bays i 0) (are : squares_at (field_in lent) places ≡ Some row) (same : row' ≡ row) (long : length before ≡ 256) where
+  pub told_along : (k : ℕ) (v : Vec ℕ Global) → Answered lent i c row' before after (Ok (Some k))
+      → vec_items v ≡ letters_of (field_in lent) c (take k after) → Told lent i places (Ok (Some v))
+  told_along k v answered is =
+      let there : Answered lent i (get_or lent.bays i 0) row before after (Ok (Some k)) = rw (bay, same) at answered in (
+        row,
+        (here, are, asked_true lent i (get_or lent.bays i 0) row 256 (ap (way_refusal lent i (get_or lent.bays i 0) row) (sym long) ∙ there.0)),
         (
           there.1.0,
           there.1.2,
-          is ∙ ap (λ x. letters_of a x (take (k - 0) after)) e
-              ∙ ap (λ l. letters_of a (get_or bs i 0) (take (k - 0) l)) there.1.3 ∙ ap (letters_of a (get_or bs i 0)) (front there.1.0 (drop k before) k there.1.1),
+          is ∙ ap (λ x. letters_of (field_in lent) x (take k after)) bay
+              ∙ ap (λ l. letters_of (field_in lent) (get_or lent.bays i 0) (take k l)) there.1.3
+              ∙ ap (letters_of (field_in lent) (get_or lent.bays i 0)) (front there.1.0 (drop k before) k there.1.1),
         ),
       )
 
-  pub told_nowhere : Answered a d ws' bs' i c row' before after way.None
-      → (asked_ok (field_in a d ws bs) i (get_or bs i 0) row 256 ≡ true) × Nowhere (field_in a d ws bs) i (get_or bs i 0) row
+  pub told_nowhere : Answered lent i c row' before after (Ok None) → Told lent i places (Ok None)
   told_nowhere answered =
-      let there : Answered a d ws bs i (get_or bs i 0) row before after way.None = rw (p, q, e, r) at answered in
-      let none : way_refusal a d ws bs i (get_or bs i 0) row 256 ≡ 0 = ap (way_refusal a d ws bs i (get_or bs i 0) row) (sym h) ∙ there.0 in
-      (asked_true a d ws bs i (get_or bs i 0) row 256 none, there.1)
+      let there : Answered lent i (get_or lent.bays i 0) row before after (Ok None) = rw (bay, same) at answered in (
+        row,
+        (here, are, asked_true lent i (get_or lent.bays i 0) row 256 (ap (way_refusal lent i (get_or lent.bays i 0) row) (sym long) ∙ there.0)),
+        there.1,
+      )
 
-  pub told_refused : (n : ℕ) → field_ok a d ws bs ≡ true → i < length bs → Answered a d ws' bs' i c row' before after (way.Refused n)
-      → asked_ok (field_in a d ws bs) i (get_or bs i 0) row 256 ≡ false
-  told_refused n ok here answered =
-      let there : Answered a d ws bs i (get_or bs i 0) row before after (way.Refused n) = rw (p, q, e, r) at answered in
-      let some : 0 < way_refusal a d ws bs i (get_or bs i 0) row 256 = rw h at there.1 in
-      asked_false a d ws bs i (get_or bs i 0) row 256 ok here some
+  pub told_refused : (r : Refusal) → field_ok lent ≡ true → Answered lent i c row' before after (Err r) → Told lent i places (Err r)
+  told_refused r ok answered =
+      let there : Answered lent i (get_or lent.bays i 0) row before after (Err r) = rw (bay, same) at answered in
+      let no =
+      asked_false lent i (get_or lent.bays i 0) row 256 (number_of r) ok here (there.0 ∙ ap (way_refusal lent i (get_or lent.bays i 0) row) long)
+      (omega (arith, there.0, there.1)) in
+      inr (fifth r no.1, here, inr (row, are, no.0))

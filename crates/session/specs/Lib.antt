@@ -1,5 +1,4 @@
 -- What is asked for on a line of commands, what comes of it in the hall, and the picture of the hall.
-pub mod Gathered
 pub mod Numbers
 pub mod Commands
 pub mod Picture

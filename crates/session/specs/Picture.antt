@@ -1,5 +1,5 @@
 -- The picture of the hall: rows of signs, each with an LF (10) at its end.
-use Rattle.std.specs.Prelude.{ℕ, zero, suc, ◌+◌, ◌*◌, cond, List, [], ◌∷◌, ◌++◌, map, ◌==◌}
+use Rattle.std.specs.Prelude.{ℕ, zero, suc, ◌+◌, ◌*◌, Bool, cond, List, [], ◌∷◌, ◌++◌, map, Some, None, Option, ◌==◌}
 use Rattle.std.specs.List.{range_with_len, flat_map}
 use Rattle.rules.specs.Field.{Field}
 use Rattle.rules.specs.Shuttle.{Fleet, holds}
@@ -8,19 +8,26 @@ use Rattle.rules.specs.Shuttle.{Fleet, holds}
 abbrev pub ground : Field → ℕ → ℕ
 ground f c = cond (f.wall c) 35 46
 
--- the small letter (from 97 on) of the one of the first n shuttles whose bay is c, and else another sign
-unfoldable pub bay_sign : Field → (n c other : ℕ) → ℕ
-bay_sign f zero c other = other
-bay_sign f (suc n) c other = cond (f.bay n == c) (97 + n) (bay_sign f n c other)
+-- the last of the first n shuttles that passes a test
+unfoldable pub last_of : (n : ℕ) → (test : ℕ → Bool) → Option ℕ
+last_of zero test = None
+last_of (suc n) test = cond (test n) (Some n) (last_of n test)
 
--- the capital letter (from 65 on) of the one of the first n shuttles that holds c, and else another sign: a shuttle holds the square it is on and, while it moves, the square behind it
-unfoldable pub shuttle_sign : Fleet → (n c other : ℕ) → ℕ
-shuttle_sign g zero c other = other
-shuttle_sign g (suc n) c other = cond (holds (g n) c) (65 + n) (shuttle_sign g n c other)
+-- the shuttle whose bay is square c; and the one that holds it, which is on it or moves and has it behind
+abbrev pub bay_at : Field → (c : ℕ) → Option ℕ
+bay_at f c = last_of f.shuttles (λ i. f.bay i == c)
 
--- the sign of square c
+abbrev pub holder_of : Field → Fleet → (c : ℕ) → Option ℕ
+holder_of f g c = last_of f.shuttles (λ i. holds (g i) c)
+
+-- the letter of a shuttle, counted on from `a`; another sign if there is none
+abbrev pub letter_or : (a other : ℕ) → Option ℕ → ℕ
+letter_or a other None = other
+letter_or a other (Some i) = a + i
+
+-- the sign of square c: the capital letter (from 65 on) of the shuttle that holds it, the small letter (from 97 on) of the one whose bay it is, or the ground
 abbrev pub sign_at : Field → Fleet → ℕ → ℕ
-sign_at f g c = shuttle_sign g f.shuttles c (bay_sign f f.shuttles c (ground f c))
+sign_at f g c = letter_or 65 (letter_or 97 (ground f c) (bay_at f c)) (holder_of f g c)
 
 -- row y, sign by sign
 abbrev pub picture_row : Field → Fleet → ℕ → List ℕ

@@ -1,46 +1,64 @@
--- What comes of opening a hall and of an event in it.
-use Rattle.std.specs.Prelude.{◌≡◌, ℕ, ◌+◌, ◌<◌, false, cond, List, length, Some, None, vec_items, Option}
+-- A hall that is played: its field, its shuttles, what comes of opening it, and of an event in it.
+use Rattle.std.specs.Prelude.{◌≡◌, ℕ, ◌+◌, ◌<◌, Bool, false, cond, List, length, Ok, Err, vec_items, Result}
 use Rattle.rules.specs.Field.{Field}
 use Rattle.rules.specs.Shuttle.{Fleet, at_home}
-use Rattle.rules.specs.Memory.{field_in, field_ok, event_ok, event_in, shuttle_in}
-use Rattle.calls.specs.Call.{Says, Promised}
-use Rattle.text.specs.declared.fields.FieldText.{FieldText}
+use Rattle.rules.specs.Event.{Event}
+use Rattle.rules.specs.Memory.{FieldNumbers, field_in, field_ok, shuttle_in}
+use Rattle.calls.specs.Call.{Says, Reached, Promised}
+use Rattle.field.specs.Refusals.{number_of}
+use Rattle.field.specs.declared.refusal.Refusal.{Refusal}
+use Rattle.field.specs.declared.refusal.Refusal.TheVariants as refusal
+use Rattle.hall.specs.Answer.{done_of, number}
+use Rattle.hall.specs.Call.{accepts}
+use Rattle.text.specs.declared.field_text.FieldText.{FieldText}
 use Rattle.text.specs.declared.answers.Answer.{Answer}
-use Rattle.text.specs.declared.answers.Answer.TheVariants.{Granted, Not, Refused}
+use Rattle.text.specs.declared.answers.Answer.TheVariants.{Granted, Not}
+use Rattle.text.specs.Shown.{numbers_of as numbers_shown}
 use Rattle.session.specs.declared.state.Session.{Session}
 
--- the field of a hall that is played, its shuttles, and what holds of them: every promise of memory that calls have led to
+-- the numbers of its field, and its memory
+abbrev pub numbers_of : Session → FieldNumbers
+numbers_of s = numbers_shown s.shown
+
+abbrev pub memory_of : Session → List ℕ
+memory_of s = vec_items s.memory
+
+-- its field, its shuttles, and what holds of them: every promise of memory that calls have led to
 abbrev pub field_of : Session → Field
-field_of s = field_in s.across s.down (vec_items s.walls) (vec_items s.bays)
+field_of s = field_in (numbers_of s)
 
 abbrev pub fleet_of : Session → Fleet
-fleet_of s = shuttle_in (vec_items s.memory)
+fleet_of s = shuttle_in (memory_of s)
 
 abbrev pub Kept : Session → Type 0
-Kept s = ∥ Promised s.across s.down (vec_items s.walls) (vec_items s.bays) (vec_items s.memory) ∥₁
+Kept s = ∥ Promised (numbers_of s) (memory_of s) ∥₁
 
--- a hall is opened on the field that was read, with each shuttle at home; or what was read is no field
+-- a hall is opened on the field that was read, with each shuttle at home
 pub record Begun (t : FieldText) (s : Session) : Type 0 where
-  pub across : s.across ≡ t.across
-  pub down : s.down ≡ t.down
-  pub walls : vec_items s.walls ≡ vec_items t.walls
-  pub bays : vec_items s.bays ≡ vec_items t.bays
-  pub home : (i : ℕ) → i < length (vec_items s.bays) → fleet_of s i ≡ at_home (field_of s) i
+  pub same : numbers_of s ≡ numbers_shown t
+  pub home : (i : ℕ) → i < length (numbers_of s).bays → fleet_of s i ≡ at_home (field_of s) i
 
-abbrev pub Opened : FieldText → Option Session → Type 0
-Opened t None = field_ok t.across t.down (vec_items t.walls) (vec_items t.bays) ≡ false
-Opened t (Some s) = Begun t s
+-- or what was read is no field
+abbrev pub Opened : FieldText → Result Session Refusal → Type 0
+Opened t (Ok s) = Begun t s
+Opened t (Err r) = (r ≡ refusal.Field) × (field_ok (numbers_shown t) ≡ false)
 
--- the number of an answer, as the entry has it: 0 granted, 1 not, 16 + 3 turned away
-abbrev pub number_of : Answer → ℕ
-number_of Granted = 0
-number_of Not = 1
-number_of (Refused r) = 16 + 3
+-- an event in memory: the answer and the memory left are those of the entry, turned away by 3 for an event that is none
+abbrev pub TakenBy : FieldNumbers → (memory : List ℕ) → Event → (answer : ℕ) → (left : List ℕ) → Type 0
+TakenBy lent m e n left = Says (cond (accepts (length lent.bays) e) 0 3) (field_in lent) m e n left
 
--- an event, by its number, of shuttle i with a route: the answer and the hall after it are those of the entry, turned away by 3 for an event that is none; the field stays
-pub record Came (s t : Session) (kind i : ℕ) (route : List ℕ) (a : Answer) : Type 0 where
-  pub across : t.across ≡ s.across
-  pub down : t.down ≡ s.down
-  pub walls : vec_items t.walls ≡ vec_items s.walls
-  pub bays : vec_items t.bays ≡ vec_items s.bays
-  pub says : Says (cond (event_ok (length (vec_items s.bays)) kind i route) 0 3) (field_of s) (vec_items s.memory) (event_in kind i route) (number_of a) (vec_items t.memory)
+-- and memory that calls have led to is such memory again
+pub record Taken (lent : FieldNumbers) (m : List ℕ) (e : Event) (r : Result Bool Refusal) (left : List ℕ) : Type 0 where
+  pub says : TakenBy lent m e (number (done_of r)) left
+  pub stays : Reached lent m → Reached lent left
+
+-- the number of an answer, as the entry has it: 0 granted, 1 not, 16 + n turned away by n
+abbrev pub answer_number : Result Answer Refusal → ℕ
+answer_number (Ok Granted) = 0
+answer_number (Ok Not) = 1
+answer_number (Err r) = 16 + number_of r
+
+-- an event in the hall: its answer, and the hall after it; the field stays
+pub record Came (s t : Session) (e : Event) (a : Result Answer Refusal) : Type 0 where
+  pub same : numbers_of t ≡ numbers_of s
+  pub says : TakenBy (numbers_of s) (memory_of s) e (answer_number a) (memory_of t)

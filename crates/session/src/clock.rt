@@ -1,10 +1,10 @@
-// What is kept for ticks of each shuttle: how many ticks it has waited, and how many ago its last step was.
+// What is kept for ticks of each shuttle: how many ticks it has waited, and how many ago its last step was. The two
+// lie apart, since the waits are lent to each tick as C lends them.
 ghost use Rattle.std.specs.Prelude.{◌≡◌, IfOk, slice_set};
-ghost use Rattle.session.specs.Ticks.{older, mark_at, marks_at, ages_after, Fresh};
+ghost use Rattle.session.specs.Ticks.{older, marks_at, Fresh};
 
 use super::state::Session;
 use std::alloc::{AllocError, Global};
-use tick::Ticked;
 
 #[derive(Drop)]
 pub struct Clock {
@@ -17,7 +17,7 @@ impl Clock {
     pub fn start(heap: Global, session: &Session) -> Result<Clock, AllocError>
         ensures { IfOk result (Fresh session.now) }
     {
-        let count = session.bays.len();
+        let count = session.shown.bays.len();
         let waits = vec![in heap; 0u64; count]?;
         let ages = vec![in heap; 0u64; count]?;
         Ok(Clock { waits, ages })
@@ -28,23 +28,8 @@ impl Clock {
         ensures ages { self.new.ages.items ≡ slice_set self.old.ages.items shuttle 0 }
         ensures waits { self.new.waits.items ≡ self.old.waits.items }
     {
-        let i = shuttle as usize;
-        if i < self.ages.len() {
-            self.ages[i] = 0;
-        }
-    }
-}
-
-impl Clock {
-    // A tick answered this.
-    pub(crate) fn note(&mut self, answer: Ticked)
-        ensures ages { self.new.ages.items ≡ ages_after answer self.old.ages.items }
-        ensures waits { self.new.waits.items ≡ self.old.waits.items }
-    {
-        match answer {
-            Ticked::Granted(shuttle) => self.stepped(shuttle),
-            Ticked::Nobody => {}
-            Ticked::Refused(_) => {}
+        if let Some(age) = self.ages.get_mut(shuttle as usize) {
+            *age = 0;
         }
     }
 }
@@ -53,26 +38,12 @@ impl Clock {
 pub fn older(heap: Global, ages: &[u64]) -> Result<Vec<u64>, AllocError>
     ensures { IfOk result (λ v. v.items ≡ older ages.now) }
 {
-    let mut all = Vec::new(heap);
-    for age in ages {
-        all.push(age.saturating_add(1))?;
-    }
-    Ok(all)
-}
-
-fn mark_at(due: u64, age: u64) -> u8
-    ensures { result ≡ mark_at due age }
-{
-    if due <= age { 1 } else { 0 }
+    ages.iter().map(|age| age.saturating_add(1)).collect(heap)
 }
 
 // A mark for each age: 1 if an arrival is due that many ticks after its step.
 pub fn marks_at(heap: Global, due: u64, ages: &[u64]) -> Result<Vec<u8>, AllocError>
     ensures { IfOk result (λ v. v.items ≡ marks_at due ages.now) }
 {
-    let mut marks = Vec::new(heap);
-    for age in ages {
-        marks.push(mark_at(due, *age))?;
-    }
-    Ok(marks)
+    ages.iter().map(|age| u8::from(due <= *age)).collect(heap)
 }

@@ -1,29 +1,23 @@
 // A line of commands is read.
-ghost use Rattle.std.specs.Prelude.{◌≡◌, [], IfOk, slice_index_or};
+ghost use Rattle.std.specs.Prelude.{◌≡◌, ℕ, [], ◌∷◌, IfOk, vec_items};
+ghost use Rattle.std.specs.Option.{option_map};
 ghost use Rattle.text.specs.Lines.{words, pieces};
+ghost use Rattle.text.specs.Gathered.{gathered};
 ghost use Rattle.text.specs.Routes.{ways_in};
-ghost use Rattle.session.specs.Numbers.{places_in};
-ghost use Rattle.session.specs.Commands.{meaning, verb_of, shuttle_of, ordered, way_asked, ticks_asked, asked_by, asked};
+ghost use Rattle.session.specs.Numbers.{place_in};
+ghost use Rattle.text.specs.Failures.{UnlessMemory};
+ghost use Rattle.session.specs.Commands.{Ask, order, meaning, shuttle_of, asked_with};
+ghost use Rattle.session.specs.Commands.{order_of, event_of, way_of, tick_of, show_of, asked, Says};
 
-use super::numbers::{Place, Ticks, is_word, read_places, read_ticks};
+use super::numbers::{Place, Ticks, read_place, read_ticks};
+use field::{Direction, Refusal};
 use std::alloc::{AllocError, Global};
-use text::{Way, read_ways, words_of};
-
-// The first word of a command.
-#[derive(Clone, Copy)]
-pub enum Verb {
-    Order,
-    Step,
-    Arrive,
-    Way,
-    Tick,
-    Show,
-}
+use text::{Failure, gather, is_bay_letter, read_ways, words_of};
 
 // What is asked for: an event of a shuttle, its way through squares, ticks, or the picture of the hall.
 #[derive(Drop)]
 pub enum Command {
-    Order(u64, Vec<Way>),
+    Order(u64, Vec<Direction>),
     Step(u64),
     Arrive(u64),
     Way(u64, Vec<Place>),
@@ -31,129 +25,113 @@ pub enum Command {
     Show,
 }
 
-// What a line says: it has no word, it can't be read, or it asks for something.
-#[derive(Drop)]
-pub enum Said {
-    Nothing,
-    Unreadable,
-    Asked(Command),
-}
-
-fn read_verb(word: &[u8]) -> Option<Verb>
-    ensures { result ≡ verb_of word.now }
-{
-    if is_word(word, "order") {
-        Some(Verb::Order)
-    } else if is_word(word, "step") {
-        Some(Verb::Step)
-    } else if is_word(word, "arrive") {
-        Some(Verb::Arrive)
-    } else if is_word(word, "way") {
-        Some(Verb::Way)
-    } else if is_word(word, "tick") {
-        Some(Verb::Tick)
-    } else if is_word(word, "show") {
-        Some(Verb::Show)
-    } else {
-        None
-    }
-}
-
+// A shuttle, as exactly one letter.
 fn read_shuttle(word: &[u8]) -> Option<u64>
     ensures { result ≡ shuttle_of word.now }
 {
-    if word.len() == 1 && word[0] >= b'a' && word[0] <= b'p' {
-        Some((word[0] - b'a') as u64)
-    } else {
-        None
+    match word {
+        [letter] if is_bay_letter(*letter) => Some(u64::from(letter - b'a')),
+        _ => None,
     }
 }
 
-// The word at a place, and one without letters past the last.
-fn word_at<'a>(words: &[&'a [u8]], i: usize) -> &'a [u8]
-    ensures { result.now ≡ slice_index_or (pieces words.now) i [] }
+// An order, if its shuttle and its letters can be read.
+fn read_route(heap: Global, shuttle: &[u8], letters: &[u8]) -> Result<Option<Command>, AllocError>
+    ensures { let wanted = asked_with order (shuttle_of shuttle.now) (ways_in letters.now) in
+        IfOk result (λ o. option_map meaning o ≡ wanted) }
 {
-    if i < words.len() { words[i] } else { &[] }
+    let Some(i) = read_shuttle(shuttle) else {
+        return Ok(None);
+    };
+    Ok(read_ways(heap, letters)?.map(|ways| Command::Order(i, ways)))
 }
 
-// An order, if its letters stand for ways.
-fn read_order(heap: Global, shuttle: u64, letters: &[u8]) -> Result<Said, AllocError>
-    ensures { IfOk result (λ s. meaning s ≡ ordered shuttle (ways_in letters.now)) }
+// The words behind 'order': a shuttle, and the letters of its route if it has any.
+#[tactic(auto, unfolding(crate::specs::Commands::order_of, text::specs::Gathered::gathered))]
+fn read_order(heap: Global, words: &[&[u8]]) -> Result<Option<Command>, AllocError>
+    ensures { IfOk result (λ o. option_map meaning o ≡ order_of (pieces words.now)) }
 {
-    match read_ways(heap, letters)? {
-        Some(ways) => Ok(Said::Asked(Command::Order(shuttle, ways))),
-        None => Ok(Said::Unreadable),
+    match words {
+        [shuttle] => read_route(heap, shuttle, b""),
+        [shuttle, letters] => read_route(heap, shuttle, letters),
+        _ => Ok(None),
     }
 }
 
-// A way, if the words past the second stand for squares.
-fn read_asked(heap: Global, shuttle: u64, words: &[&[u8]]) -> Result<Said, AllocError>
-    ensures { IfOk result (λ s. meaning s ≡ way_asked shuttle (places_in (pieces words.now))) }
+// The word behind 'step' or 'arrive': a shuttle.
+#[tactic(auto, unfolding(crate::specs::Commands::event_of))]
+fn read_event(words: &[&[u8]]) -> Option<u64>
+    ensures { (ask : ℕ → Ask) → option_map ask result ≡ event_of ask (pieces words.now) }
 {
-    match read_places(heap, words)? {
-        Some(places) => Ok(Said::Asked(Command::Way(shuttle, places))),
-        None => Ok(Said::Unreadable),
+    match words {
+        [shuttle] => read_shuttle(shuttle),
+        _ => None,
     }
 }
 
-// Ticks, if there are such.
-fn ticks_said(ticks: Option<Ticks>) -> Said
-    ensures { meaning result ≡ ticks_asked ticks }
+// The squares that words stand for.
+fn read_places(heap: Global, words: &[&[u8]]) -> Result<Option<Vec<Place>>, AllocError>
+    ensures { IfOk result (λ o. option_map vec_items o ≡ gathered place_in [] (pieces words.now)) }
 {
-    match ticks {
-        Some(ticks) => Said::Asked(Command::Tick(ticks)),
-        None => Said::Unreadable,
+    gather(heap, words, |word| read_place(word))
+}
+
+// The words behind 'way': a shuttle and squares.
+#[tactic(auto, unfolding(crate::specs::Commands::way_of))]
+fn read_way(heap: Global, words: &[&[u8]]) -> Result<Option<Command>, AllocError>
+    ensures { IfOk result (λ o. option_map meaning o ≡ way_of (pieces words.now)) }
+{
+    let [shuttle, squares @ ..] = words else {
+        return Ok(None);
+    };
+    let Some(i) = read_shuttle(shuttle) else {
+        return Ok(None);
+    };
+    Ok(read_places(heap, squares)?.map(|places| Command::Way(i, places)))
+}
+
+// The words behind 'tick': a number, the letter d, a number.
+#[tactic(auto, unfolding(crate::specs::Commands::tick_of))]
+fn read_tick(words: &[&[u8]]) -> Option<Command>
+    ensures { option_map meaning result ≡ tick_of (pieces words.now) }
+{
+    match words {
+        [count, b"d", due] => read_ticks(count, due).map(Command::Tick),
+        _ => None,
     }
 }
 
-// A command of so many words, with the shuttle, the letters of its route, its words, and the ticks that these would be.
-fn command_of(
-    heap: Global,
-    verb: Verb,
-    count: usize,
-    shuttle: Option<u64>,
-    letters: &[u8],
-    words: &[&[u8]],
-    ticks: Option<Ticks>,
-) -> Result<Said, AllocError>
-    ensures { IfOk result (λ s. meaning s ≡ asked_by verb count shuttle letters.now (pieces words.now) ticks) }
+// The words behind 'show': there are none.
+#[tactic(auto, unfolding(crate::specs::Commands::show_of))]
+fn read_show(words: &[&[u8]]) -> Option<Command>
+    ensures { option_map meaning result ≡ show_of (pieces words.now) }
 {
-    match (verb, shuttle) {
-        (Verb::Order, Some(i)) if count <= 3 => read_order(heap, i, letters),
-        (Verb::Step, Some(i)) if count <= 2 => Ok(Said::Asked(Command::Step(i))),
-        (Verb::Arrive, Some(i)) if count <= 2 => Ok(Said::Asked(Command::Arrive(i))),
-        (Verb::Way, Some(i)) => read_asked(heap, i, words),
-        (Verb::Tick, _) if count <= 4 => Ok(ticks_said(ticks)),
-        (Verb::Show, _) if count <= 1 => Ok(Said::Asked(Command::Show)),
-        _ => Ok(Said::Unreadable),
+    words.is_empty().then_some(Command::Show)
+}
+
+// What is asked for by a word and those behind it, if they can be read.
+fn command_of(heap: Global, word: &[u8], words: &[&[u8]]) -> Result<Option<Command>, AllocError>
+    ensures { IfOk result (λ o. option_map meaning o ≡ asked (word.now ∷ pieces words.now)) }
+{
+    match word {
+        b"order" => read_order(heap, words),
+        b"step" => Ok(read_event(words).map(Command::Step)),
+        b"arrive" => Ok(read_event(words).map(Command::Arrive)),
+        b"way" => read_way(heap, words),
+        b"tick" => Ok(read_tick(words)),
+        b"show" => Ok(read_show(words)),
+        _ => Ok(None),
     }
 }
 
-// What these words ask for.
-fn command_in(heap: Global, all: &[&[u8]]) -> Result<Said, AllocError>
-    ensures { IfOk result (λ s. meaning s ≡ asked (pieces all.now)) }
+// What the line at `place` asks for; nothing if it has no word.
+pub fn read_command(heap: Global, place: u64, line: &[u8]) -> Result<Option<Command>, Failure>
+    ensures { UnlessMemory result (Says place (words line.now)) }
 {
-    if all.is_empty() {
-        return Ok(Said::Nothing);
-    }
-    match read_verb(word_at(all, 0)) {
-        Some(verb) => command_of(
-            heap,
-            verb,
-            all.len(),
-            read_shuttle(word_at(all, 1)),
-            word_at(all, 2),
-            all,
-            read_ticks(word_at(all, 1), word_at(all, 2), word_at(all, 3)),
-        ),
-        None => Ok(Said::Unreadable),
-    }
-}
-
-// What a line of commands says.
-pub fn read_command(heap: Global, line: &[u8]) -> Result<Said, AllocError>
-    ensures { IfOk result (λ s. meaning s ≡ asked (words line.now)) }
-{
-    let found = words_of(heap, line)?;
-    command_in(heap, found.as_slice())
+    let words = words_of(heap, line)?;
+    let [word, rest @ ..] = words.as_slice() else {
+        return Ok(None);
+    };
+    let command = command_of(heap, word, rest)?;
+    Ok(Some(command.ok_or(Refusal::Text(place))?))
 }

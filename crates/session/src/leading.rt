@@ -1,116 +1,83 @@
 // The shortest way of a shuttle from its bay, in letters.
-ghost use Rattle.std.specs.Prelude.{◌≡◌, ◌≤◌, IfOk, vec_items};
+ghost use Rattle.std.specs.Prelude.{◌≡◌, IfOk, vec_items};
 ghost use Rattle.std.specs.Option.{option_map};
-ghost use Rattle.session.specs.Ways.{letter_to, letters_of, square_at, squares_at, Told};
+ghost use Rattle.field.specs.Model.{field_of};
+ghost use Rattle.text.specs.Failures.{UnlessMemory};
+ghost use Rattle.session.specs.Played.{numbers_of};
+ghost use Rattle.session.specs.Ways.{letters_of, square_at, squares_at, Told};
 
 use super::numbers::Place;
 use super::state::Session;
+use field::{Field, Refusal};
 use std::alloc::{AllocError, Global};
-use text::Refusal;
-use way::{Way, way};
+use text::{Failure, gather};
+use way::way;
 
-// What is told of a way: the letters of the route, that there is none, or why it is turned away.
-#[derive(Drop)]
-pub enum Led {
-    Along(Vec<u8>),
-    Nowhere,
-    Refused(Refusal),
-}
-
-// The letter of a step from a square to one beside it.
-fn letter_to(across: u64, from: u16, to: u16) -> u8
-    requires { across ≤ 64 }
-    ensures { result ≡ letter_to across from to }
-{
-    let c = from as u64;
-    let e = to as u64;
-    if c + across == e {
-        b'd'
-    } else if c + 1 == e {
-        b'r'
-    } else if e + across == c {
-        b'u'
-    } else {
-        b'l'
-    }
-}
-
-// The letters of a route from a square.
-fn letters_of(heap: Global, across: u64, from: u16, route: &[u16]) -> Result<Vec<u8>, AllocError>
-    requires { across ≤ 64 }
-    ensures { IfOk result (λ v. v.items ≡ letters_of across from route.now) }
+// The letters of a route from a square. A loop, since each letter is that of a step from the square before.
+fn letters_of(heap: Global, field: &Field, from: u16, route: &[u16]) -> Result<Vec<u8>, AllocError>
+    ensures { IfOk result (λ v. v.items ≡ letters_of (field_of field.now) from route.now) }
 {
     let mut letters = Vec::new(heap);
     let mut at = from;
     for square in route {
-        letters.push(letter_to(across, at, *square))?;
+        letters.push(field.direction_to(at, *square).into())?;
         at = *square;
     }
     Ok(letters)
 }
 
 // The number of a square of the field.
-fn square_at(across: u64, down: u64, place: Place) -> Option<u16>
-    requires wide { across ≤ 64 }
-    requires high { down ≤ 64 }
-    ensures { result ≡ square_at across down place }
+fn square_at(field: &Field, place: &Place) -> Option<u16>
+    ensures { result ≡ square_at (field_of field.now) place.now }
 {
-    if place.column < across && place.row < down {
-        Some((place.row * across + place.column) as u16)
+    if place.column < field.across && place.row < field.down {
+        Some((place.row * field.across + place.column) as u16)
     } else {
         None
     }
 }
 
 // The numbers of squares, or none if one of them is outside the field.
-fn squares_at(
-    heap: Global,
-    across: u64,
-    down: u64,
-    places: &[Place],
-) -> Result<Option<Vec<u16>>, AllocError>
-    requires wide { across ≤ 64 }
-    requires high { down ≤ 64 }
-    ensures { IfOk result (λ o. option_map vec_items o ≡ squares_at across down places.now) }
+fn squares_at(heap: Global, field: &Field, places: &[Place]) -> Result<Option<Vec<u16>>, AllocError>
+    ensures { let squares = squares_at (field_of field.now) places.now in
+        IfOk result (λ o. option_map vec_items o ≡ squares) }
 {
-    let mut squares = Vec::new(heap);
-    for place in places {
-        let Some(square) = square_at(across, down, *place) else {
-            return Ok(None);
-        };
-        squares.push(square)?;
-    }
-    Ok(Some(squares))
+    gather(heap, places, |place| square_at(field, place))
 }
 
 impl Session {
-    // The shortest way of a shuttle from its bay through these squares, in letters.
-    pub fn way(&self, heap: Global, shuttle: u64, places: &[Place]) -> Result<Led, AllocError>
-        ensures { IfOk result (Told self.now shuttle places.now) }
+    // The shortest way of a shuttle from its bay through these squares, in letters; nothing if
+    // there is none.
+    pub fn way(
+        &self,
+        heap: Global,
+        shuttle: u64,
+        places: &[Place],
+    ) -> Result<Option<Vec<u8>>, Failure>
+        ensures { UnlessMemory result (Told (numbers_of self.now) shuttle places.now) }
     {
-        let walls = self.walls.as_slice();
-        let bays = self.bays.as_slice();
-        if shuttle >= bays.len() as u64 {
-            return Ok(Led::Refused(Refusal::Event));
-        }
-        let Some(row) = squares_at(heap, self.across, self.down, places)? else {
-            return Ok(Led::Refused(Refusal::Squares));
-        };
-        let from = bays[shuttle as usize];
+        let field = self.field();
+        let bay = field
+            .bays
+            .get(shuttle as usize)
+            .copied()
+            .ok_or(Refusal::Event)?;
+        let row = squares_at(heap, &field, places)?.ok_or(Refusal::Way)?;
+        // The entry writes the route into what is lent, as C lends it, and answers how many squares it has.
         let mut route = [0u16; 256];
-        match way(
-            self.across,
-            self.down,
-            walls,
-            bays,
+        let found = way(
+            field.across,
+            field.down,
+            field.walls,
+            field.bays,
             shuttle,
-            from,
+            bay,
             row.as_slice(),
             &mut route,
-        ) {
-            Way::Found(k) => Ok(Led::Along(letters_of(heap, self.across, from, &route[0..k])?)),
-            Way::None => Ok(Led::Nowhere),
-            Way::Refused(_) => Ok(Led::Refused(Refusal::Squares)),
+        )?;
+        match found {
+            Some(squares) => Ok(Some(letters_of(heap, &field, bay, &route[..squares])?)),
+            None => Ok(None),
         }
     }
 }

@@ -11,7 +11,7 @@ mod state;
 mod ticking;
 
 pub use clock::Clock;
-pub use commands::{Command, Said, read_command};
-pub use leading::Led;
+pub use commands::{Command, read_command};
 pub use numbers::{Place, Ticks};
+pub use picture::letter_of;
 pub use state::Session;

@@ -1,131 +1,110 @@
--- How lines and words come off the front of a text.
-use Rattle.std.proofs.Common.{◌≡◌, ℕ, zero, suc, ◌+◌, ◌-◌, ◌<◌, Bool, true, false, not, eqb, List, [], ◌∷◌, ◌++◌, length, get_or, take, drop, refl, ap, append_assoc, add-one, arith, Bor}
-use native.Mathlib.Nat.{sub-zero}
-use Rattle.std.specs.List.{prefix_len}
-use Rattle.std.proofs.lemmas.List.{take_rest, drop_all, map_push}
+-- The library's lines and words are those of specs/Lines.
+use Rattle.std.proofs.Common.{◌≡◌, ℕ, suc, ◌-◌, Bool, false, not, cond, ◌&&◌, ◌==◌, eqb, List, [], ◌∷◌, length, slice_index, take, drop, map, filter, refl, sym, ap, ◌∙◌, arith}
+use Rattle.std.specs.List.{slice_split, onto_first}
+use Rattle.std.proofs.lemmas.Bool.{cond-false, ne_eqb}
 use Rattle.std.proofs.lemmas.Bool.Decides.{nat_tests}
+use Rattle.bstr.specs.Text.{line_len, lines_from, lines_of, without_terminator, no_cr}
+use Rattle.bstr.proofs.lemmas.LineLemmas.{lines-nil, lines-step, line_len-bounds}
 use Rattle.rules.specs.Tests.{is_empty}
-use Rattle.text.specs.Lines.{first_is, put_first, lines, words, without_return, pieces}
+use Rattle.text.specs.Lines.{first_is, put_first, lines, words}
 
--- bytes that are no `stop`
-abbrev pub other : ℕ → ℕ → Bool
-other stop b = not (eqb b stop)
+-- a line feed first: a line of it alone
+feed_first : (b : ℕ) (bs : List ℕ) → b ≡ 10 → lines_of (b ∷ bs) ≡ (b ∷ []) ∷ lines_of bs
+unfolding line_len
+feed_first b bs e = let first = lines-step (b ∷ bs) (omega arith) in grind (arith, nat_tests)
 
-pub is_stop : (b stop : ℕ) → b ≡ stop → other stop b ≡ false
-is_stop b stop e = grind (arith, nat_tests)
+-- another byte before others is put before the first line
+other_first : (b c : ℕ) (cs : List ℕ) → (b ≡ 10 → ⊥) → lines_of (b ∷ c ∷ cs) ≡ put_first b (lines_of (c ∷ cs))
+unfolding line_len put_first
+other_first b c cs e =
+    let more : line_len (b ∷ c ∷ cs) ≡ suc (line_len (c ∷ cs)) = cond-false _ _ _ (ne_eqb b 10 e) in
+    lines-step (b ∷ c ∷ cs) (omega arith) ∙ ap (λ k. take k (b ∷ c ∷ cs) ∷ lines_of (drop k (b ∷ c ∷ cs))) more
+    ∙ sym (ap (put_first b) (lines-step (c ∷ cs) (omega arith)))
 
-pub is_other : (b stop : ℕ) → (b ≡ stop → ⊥) → other stop b ≡ true
-is_other b stop e = grind (arith, nat_tests)
+-- the last byte of all but the first, and all but the last
+last_same : (b c : ℕ) (cs : List ℕ) → slice_index (b ∷ c ∷ cs) (length (b ∷ c ∷ cs) - 1) ≡ slice_index (c ∷ cs) (length (c ∷ cs) - 1)
+last_same b c cs = let e : length (b ∷ c ∷ cs) - 1 ≡ suc (length (c ∷ cs) - 1) = omega arith in ap (slice_index (b ∷ c ∷ cs)) e
 
--- a CR at the end goes, and nothing else
-pub return_goes : (s : List ℕ) (n : ℕ) → length s ≡ suc n → get_or s n 0 ≡ 13 → take n s ≡ without_return s
-unfolding without_return is_empty
-return_goes [] n h e = absurd (omega arith)
-return_goes (b ∷ []) zero h e = grind (arith, nat_tests)
-return_goes (b ∷ []) (suc n) h e = absurd (omega arith)
-return_goes (b ∷ c ∷ cs) zero h e = absurd (omega arith)
-return_goes (b ∷ c ∷ cs) (suc n) h e =
-    let ih = return_goes (c ∷ cs) n (omega arith) e in grind (arith, nat_tests, ih)
+front_same : (b c : ℕ) (cs : List ℕ) → take (length (b ∷ c ∷ cs) - 1) (b ∷ c ∷ cs) ≡ b ∷ take (length (c ∷ cs) - 1) (c ∷ cs)
+front_same b c cs = let e : length (b ∷ c ∷ cs) - 1 ≡ suc (length (c ∷ cs) - 1) = omega arith in ap (λ k. take k (b ∷ c ∷ cs)) e
 
-pub no_return : (s : List ℕ) (n : ℕ) → length s ≡ suc n → (get_or s n 0 ≡ 13 → ⊥) → s ≡ without_return s
-unfolding without_return is_empty
-no_return [] n h e = absurd (omega arith)
-no_return (b ∷ []) zero h e = grind (arith, nat_tests)
-no_return (b ∷ []) (suc n) h e = absurd (omega arith)
-no_return (b ∷ c ∷ cs) zero h e = absurd (omega arith)
-no_return (b ∷ c ∷ cs) (suc n) h e =
-    let ih = no_return (c ∷ cs) n (omega arith) e in grind (arith, nat_tests, ih)
+-- what goes with a CR at the end
+cr_off : (b c : ℕ) (cs : List ℕ) → no_cr (b ∷ c ∷ cs) ≡ b ∷ no_cr (c ∷ cs)
+cr_off b c cs = rw (last_same, front_same) (grind (arith, nat_tests))
 
-pub none_stays : (s : List ℕ) → length s ≡ 0 → s ≡ without_return s
-unfolding without_return
-none_stays [] h = refl
-none_stays (b ∷ bs) h = absurd (omega arith)
+-- what an end takes off a line stays off it with a byte before, but for a CR right before the end
+end_off : (b c : ℕ) (cs : List ℕ) → (b ≡ 13 → c ≡ 10 → length cs ≡ 0 → ⊥) → without_terminator (b ∷ c ∷ cs) ≡ b ∷ without_terminator (c ∷ cs)
+end_off b c [] e = grind (arith, nat_tests)
+end_off b c (d ∷ ds) e =
+    let off : no_cr (take (length (b ∷ c ∷ d ∷ ds) - 1) (b ∷ c ∷ d ∷ ds)) ≡ b ∷ no_cr (take (length (c ∷ d ∷ ds) - 1) (c ∷ d ∷ ds)) =
+    rw (front_same b c (d ∷ ds), front_same c d ds) (cr_off b c (take (length (d ∷ ds) - 1) (d ∷ ds))) in
+    let last = last_same b c (d ∷ ds) in
+    grind (arith, nat_tests)
 
--- an LF is next exactly if no byte stands before the first one
-next_lf : (s : List ℕ) → prefix_len (other 10) s < length s → first_is 10 s ≡ eqb (prefix_len (other 10) s) 0
-unfolding first_is
-next_lf [] h = absurd (omega arith)
-next_lf (b ∷ bs) h = grind (arith, nat_tests)
+-- a byte before others is put before the first of their lines, unless it is the CR of an end
+put_over : (b c : ℕ) (cs : List ℕ) → (b ≡ 13 → c ≡ 10 → ⊥)
+    → map without_terminator (put_first b (lines_of (c ∷ cs))) ≡ put_first b (map without_terminator (lines_of (c ∷ cs)))
+unfolding put_first
+put_over b c cs e =
+    let n = line_len (c ∷ cs) - 1 in
+    let bounds = line_len-bounds (c ∷ cs) (omega arith) in
+    let some : line_len (c ∷ cs) ≡ suc n = omega arith in
+    let first = lines-step (c ∷ cs) (omega arith) ∙ ap (λ k. take k (c ∷ cs) ∷ lines_of (drop k (c ∷ cs))) some in
+    rw first (ap (λ l. l ∷ map without_terminator (lines_of (drop n cs))) (end_off b c (take n cs) (λ cr lf _. e cr lf)))
 
--- with an LF at k, the first line is what stands before it
-pub line_cut : (s : List ℕ) (k : ℕ) → k ≡ prefix_len (other 10) s → k < length s
-    → lines s ≡ without_return (take k s) ∷ lines (drop (suc k) s)
-unfolding lines put_first without_return is_empty
-line_cut [] k e h = absurd (omega arith)
-line_cut (b ∷ bs) zero e h = grind (arith, nat_tests)
-line_cut (b ∷ bs) (suc zero) e h =
-    let less : 0 ≡ prefix_len (other 10) bs = grind (arith, nat_tests) in
-    let ih = line_cut bs 0 less (omega arith) in
-    let lf : first_is 10 bs ≡ true = grind (arith, nat_tests, next_lf bs (omega arith)) in
-    let put : put_first b (lines bs) ≡ (b ∷ []) ∷ lines (drop 1 bs) = ap (put_first b) ih in
-    grind (arith, nat_tests, ih, lf, put)
-line_cut (b ∷ []) (suc (suc k)) e h = absurd (omega arith)
-line_cut (b ∷ c ∷ cs) (suc (suc k)) e h =
-    let less : suc k ≡ prefix_len (other 10) (c ∷ cs) = grind (arith, nat_tests) in
-    let ih = line_cut (c ∷ cs) (suc k) less (omega arith) in
-    let lf : first_is 10 (c ∷ cs) ≡ false = grind (arith, nat_tests, next_lf (c ∷ cs) (omega arith)) in
-    let put = ap (put_first b) ih in
-    grind (arith, nat_tests, lf, put)
+-- the CR of an end is no byte of its line
+cr_over : (b c : ℕ) (cs : List ℕ) → b ≡ 13 → c ≡ 10
+    → map without_terminator (put_first b (lines_of (c ∷ cs))) ≡ map without_terminator (lines_of (c ∷ cs))
+unfolding put_first
+cr_over b c cs cr lf =
+    rw (feed_first c cs lf) (grind (arith, nat_tests))
 
--- without one, the first line is all
-pub line_last : (s : List ℕ) (n : ℕ) → length s ≡ suc n → prefix_len (other 10) s ≡ length s → lines s ≡ s ∷ []
-unfolding lines put_first first_is
-line_last [] n h e = absurd (omega arith)
-line_last (b ∷ []) n h e = grind (arith, nat_tests)
-line_last (b ∷ c ∷ cs) n h e =
-    let less : prefix_len (other 10) (c ∷ cs) ≡ length (c ∷ cs) = grind (arith, nat_tests) in
-    let ih = line_last (c ∷ cs) (length cs) refl less in
-    grind (arith, nat_tests, ih)
+-- the first line, by the first bytes
+line_begins : (b c : ℕ) (cs : List ℕ) → (b ≡ 10 → ⊥) → lines (b ∷ c ∷ cs) ≡ cond (b == 13 && c == 10) (lines (c ∷ cs)) (put_first b (lines (c ∷ cs)))
+unfolding lines first_is
+line_begins b c cs other = cond-false _ _ _ (ne_eqb b 10 other)
 
--- a blank before words goes
-pub blank_goes : (s : List ℕ) → 0 < length s → prefix_len (other 32) s ≡ 0 → words s ≡ words (drop 1 s)
-unfolding words
-blank_goes [] h e = absurd (omega arith)
-blank_goes (b ∷ bs) h e = grind (arith, nat_tests)
+-- the line of one byte
+line_alone : (b : ℕ) → map without_terminator (lines_of (b ∷ [])) ≡ lines (b ∷ [])
+unfolding lines put_first first_is line_len lines_from
+line_alone b = grind (arith, nat_tests)
 
--- the first word is what stands before the first blank
-pub word_cut : (s : List ℕ) (k : ℕ) → suc k ≡ prefix_len (other 32) s → words s ≡ take (suc k) s ∷ words (drop (suc k) s)
+-- the library's lines
+pub lines_are : (s : List ℕ) → map without_terminator (lines_of s) ≡ lines s
+unfolding lines
+lines_are [] = ap (map without_terminator) lines-nil
+lines_are (b ∷ []) = line_alone b
+lines_are (b ∷ c ∷ cs) =
+    let ih = lines_are (c ∷ cs) in
+    grind (arith, nat_tests, feed_first b (c ∷ cs), other_first b c cs, put_over b c cs, cr_over b c cs, line_begins b c cs)
+
+-- a part that has a byte
+abbrev pub some : List ℕ → Bool
+some w = not (eqb (length w) 0)
+
+-- a blank
+abbrev pub is_blank : ℕ → Bool
+is_blank b = eqb b 32
+
+-- a byte before another one of a word is put before the first word
+word_goes_on : (b c : ℕ) (parts : List (List ℕ)) → filter some (onto_first b (onto_first c parts)) ≡ put_first b (filter some (onto_first c parts))
+unfolding put_first
+word_goes_on b c [] = grind (arith, nat_tests)
+word_goes_on b c (p ∷ ps) = grind (arith, nat_tests)
+
+-- the first word, by the first bytes
+word_begins : (b c : ℕ) (cs : List ℕ) → is_blank b ≡ false
+    → words (b ∷ c ∷ cs) ≡ cond (is_blank c) ((b ∷ []) ∷ words (c ∷ cs)) (put_first b (words (c ∷ cs)))
+unfolding words first_is is_empty
+word_begins b c cs other = cond-false _ _ _ other
+
+-- the library's words: parts between blanks that have a byte
+pub words_are : (s : List ℕ) → filter some (slice_split is_blank s) ≡ words s
 unfolding words put_first first_is is_empty
-word_cut [] k e = absurd (omega arith)
-word_cut (b ∷ []) zero e = grind (arith, nat_tests)
-word_cut (b ∷ []) (suc k) e = absurd (grind (arith, nat_tests))
-word_cut (b ∷ c ∷ cs) zero e = grind (arith, nat_tests)
-word_cut (b ∷ c ∷ cs) (suc k) e =
-    let less : suc k ≡ prefix_len (other 32) (c ∷ cs) = grind (arith, nat_tests) in
-    let ih = word_cut (c ∷ cs) k less in
-    grind (arith, nat_tests, ih)
-
--- the same as the code cuts: `&s[0..k]` and `&s[k + 1..]`
-pub line_off : (s : List ℕ) (k : ℕ) → k ≡ prefix_len (other 10) s → k < length s
-    → lines s ≡ without_return (take (k - 0) s) ∷ lines (take (length s - (k + 1)) (drop (k + 1) s))
-line_off s k e h = rw (sub-zero, take_rest, add-one) (line_cut s k e h)
-
-pub line_rest : (s : List ℕ) (k : ℕ) → k ≡ prefix_len (other 10) s → k ≡ length s → 0 < k
-    → lines s ≡ s ∷ lines (take (length s - k) (drop k s))
-unfolding lines
-line_rest s k e h more =
-    let none = drop_all k s (omega arith) in
-    rw (take_rest, none) (line_last s (length s - 1) (omega arith) (omega arith))
-
-pub blank_off : (s : List ℕ) → 0 < length s → prefix_len (other 32) s ≡ 0 → words s ≡ words (take (length s - 1) (drop 1 s))
-blank_off s h e = rw take_rest (blank_goes s h e)
-
-pub word_off : (s : List ℕ) (k : ℕ) → k ≡ prefix_len (other 32) s → (k ≡ 0 → ⊥)
-    → words s ≡ take (k - 0) s ∷ words (take (length s - k) (drop k s))
-word_off s zero e h = absurd (h refl)
-word_off s (suc k) e h = rw (sub-zero, take_rest) (word_cut s k e)
-
--- one more piece, as `push` leaves it
-pub piece_more : (ps : List (Bor (List ℕ))) (p : Bor (List ℕ)) (rest : List (List ℕ))
-    → pieces (ps ++ p ∷ []) ++ rest ≡ pieces ps ++ (p.now ∷ rest)
-piece_more ps p rest = rw (map_push (λ (r : Bor (List ℕ)). r.now) ps p, append_assoc)
-
-pub no_lines : (s : List ℕ) → length s ≡ 0 → lines s ≡ []
-unfolding lines
-no_lines [] h = refl
-no_lines (b ∷ bs) h = absurd (omega arith)
-
-pub no_words : (s : List ℕ) → length s ≡ 0 → words s ≡ []
-unfolding words
-no_words [] h = refl
-no_words (b ∷ bs) h = absurd (omega arith)
+words_are [] = refl
+words_are (b ∷ []) = grind (arith, nat_tests)
+words_are (b ∷ c ∷ cs) =
+    let ih = words_are (c ∷ cs) in
+    let goes_on = word_goes_on b c (slice_split is_blank cs) in
+    let begins = word_begins b c cs in
+    grind (arith, nat_tests)

@@ -1,5 +1,4 @@
 -- Lemmas behind the contracts.
 mod Cutting
 mod Reading
-mod Squares
-mod Verdicts
+mod Making

@@ -1,19 +1,23 @@
 -- How a field is read row by row, and a row sign by sign.
-use Rattle.std.proofs.Common.{◌≡◌, ℕ, suc, ◌+◌, ◌-◌, ◌<◌, ◌≤◌, min, Bool, true, false, ◌&&◌, ◌||◌, eqb, ltb, List, [], ◌∷◌, ◌++◌, length, get_or, take, drop, Some, None, Option, sym, refl, ap, ◌∙◌, append_assoc, append-nil, add-one, arith, Bor}
-use native.Mathlib.Nat.{sub-zero}
-use Rattle.std.specs.List.{prefix_len}
-use Rattle.std.proofs.lemmas.List.{drop_more, drop_all, take_more, get_or-map, length-map}
-use Rattle.std.proofs.lemmas.Bool.{cond-true, cond-false, lt-ltb, le-ltb}
+use Rattle.std.proofs.Common.{◌≡◌, ℕ, zero, suc, ◌+◌, ◌-◌, ◌<◌, ◌≤◌, min, Bool, not, cond, true, false, ◌&&◌, ◌||◌, eqb, ltb, List, [], ◌∷◌, ◌++◌, length, get_or, take, drop, Some, None, Err, Option, unwrap_or, sym, refl, ap, ◌∙◌, append_assoc, append-nil, zero-add, arith, Bor}
+use Rattle.std.specs.List.{list_any, list_all, position_or_len, position, enumerate_from}
+use Rattle.std.proofs.Math.Seq.{take-append_seam}
+use Rattle.std.proofs.lemmas.List.{length_push, drop_more, drop_all, get_or-map, length-map}
 use Rattle.std.proofs.lemmas.Bool.Decides.{nat_tests}
-use Rattle.rules.specs.Tests.{is_empty, among, every}
+use Rattle.rules.proofs.Tests.{empty_is}
+use Rattle.rules.specs.Tests.{among, every}
 use Rattle.text.specs.Lines.{pieces}
-use Rattle.text.specs.Fields.{row_count, sign_fits, signs_fit, row_fits, misfit, signs, is_led, gap, bays_from, across_of, or_else, fault, Tells}
-use Rattle.text.specs.declared.unread.Unread.{Unread}
-use Rattle.text.specs.declared.unread.Unread.TheVariants.{Line, Memory}
-use Rattle.text.proofs.Cutting.{other}
+use Rattle.text.specs.Fields.{row_count, sign_fits, signs_fit, row_fits, misfit, signs, is_led, gap, bays_from, across_of, fault, Tells}
+use Rattle.std.specs.Prelude.{MatchResult}
+use Rattle.std.specs.Option.{option_map}
+use Rattle.field.specs.declared.refusal.Refusal.{Refusal}
+use Rattle.field.specs.declared.refusal.Refusal.TheVariants.{Text}
+use Rattle.text.specs.declared.failure.Failure.{Failure}
+use Rattle.text.specs.declared.failure.Failure.TheVariants.{Refused, Memory}
+use Rattle.text.specs.Failures.{UnlessMemory}
 
--- a sign stands somewhere exactly if fewer bytes than all stand before the first one
-pub among_is : (c : ℕ) (s : List ℕ) → ltb (prefix_len (other c) s) (length s) ≡ among c s
+-- the library's `contains`
+pub among_is : (c : ℕ) (s : List ℕ) → list_any (λ y. eqb y c) s ≡ among c s
 unfolding among
 among_is c [] = refl
 among_is c (b ∷ bs) = grind (arith, nat_tests, among_is c bs)
@@ -30,162 +34,106 @@ piece_next ls i d h =
 pub pieces_over : (ls : List (Bor (List ℕ))) (i : ℕ) → length ls ≤ i → drop i (pieces ls) ≡ []
 pieces_over ls i h = drop_all i (pieces ls) (omega (arith, length-map ls (λ (r : Bor (List ℕ)). r.now)))
 
-pub empty_is : (l : List ℕ) → is_empty l ≡ eqb (length l) 0
-unfolding is_empty
-empty_is [] = refl
-empty_is (b ∷ bs) = grind (arith, nat_tests)
-
--- a row more, and the first empty line
-pub row_more : (ls : List (Bor (List ℕ))) (i : ℕ) (d : Bor (List ℕ)) → i < length ls → false ≡ eqb (length (get_or ls i d).now) 0
-    → row_count (drop i (pieces ls)) ≡ suc (row_count (drop (i + 1) (pieces ls)))
+-- the library's `position`, of rows that are lent
+pub row_count_is : (ls : List (Bor (List ℕ))) → unwrap_or (position (λ l. eqb (length l.now) 0) ls) (length ls) ≡ row_count (pieces ls)
 unfolding row_count
-row_more ls i d h some =
-    ap row_count (piece_next ls i d h) ∙ cond-false _ _ _ (empty_is (get_or ls i d).now ∙ sym some)
+row_count_is [] = refl
+row_count_is (l ∷ ls) = let empty = empty_is l.now in let ih = row_count_is ls in grind (arith, nat_tests)
 
-pub row_none : (ls : List (Bor (List ℕ))) (i : ℕ) (d : Bor (List ℕ)) → i < length ls → true ≡ eqb (length (get_or ls i d).now) 0
-    → row_count (drop i (pieces ls)) ≡ 0
-unfolding row_count
-row_none ls i d h none =
-    ap row_count (piece_next ls i d h) ∙ cond-true _ _ _ (empty_is (get_or ls i d).now ∙ sym none)
+gap_on : (k : ℕ) (all : List ℕ) (rows : List (Bor (List ℕ)))
+    → let p = position_or_len (λ r. not (every (is_led all) r.now)) rows in cond (ltb p (length rows)) (Some (k + p)) None ≡ gap k all (pieces rows)
+unfolding gap
+gap_on k all [] = grind (arith, nat_tests)
+gap_on k all (r ∷ rs) = let ih = gap_on (suc k) all rs in grind (arith, nat_tests)
 
-pub row_over : (ls : List (Bor (List ℕ))) (i : ℕ) → length ls ≤ i → row_count (drop i (pieces ls)) ≡ 0
-unfolding row_count
-row_over ls i h = ap row_count (pieces_over ls i h)
+pub gap_is : (all : List ℕ) (rows : List (Bor (List ℕ))) → position (λ r. not (every (is_led all) r.now)) rows ≡ gap 0 all (pieces rows)
+gap_is all rows =
+    let p = position_or_len (λ r. not (every (is_led all) r.now)) rows in
+    ap (λ n. cond (ltb p (length rows)) (Some n) None) (sym (zero-add p)) ∙ gap_on 0 all rows
 
 pub among_both : (c : ℕ) (s t : List ℕ) → among c (s ++ t) ≡ (among c s || among c t)
 unfolding among
 among_both c [] t = refl
 among_both c (b ∷ bs) t = grind (arith, nat_tests, among_both c bs t)
 
--- a sign more of a row: it fits, or not
-sign_next : (before row : List ℕ) (i : ℕ) → i < length row
-    → signs_fit (before ++ take i row) (drop i row)
-    ≡ (sign_fits (before ++ take i row) (get_or row i 0) && signs_fit (before ++ take (i + 1) row) (drop (i + 1) row))
+-- each sign of a row fits, as the library's `all` over its places tells
+signs_on : (before front row : List ℕ)
+    → list_all (λ p. sign_fits (before ++ take p.0 (front ++ row)) p.1) (enumerate_from (length front) row) ≡ signs_fit (before ++ front) row
 unfolding signs_fit
-sign_next before row i h =
-    rw (drop_more row i 0 h, take_more row i 0 h, ← append_assoc)
+signs_on before front [] = refl
+signs_on before front (s ∷ row) =
+    let fits : (all : List ℕ) → (ℕ × ℕ) → Bool = λ all p. sign_fits (before ++ take p.0 all) p.1 in
+    let next = ap (λ n. list_all (fits (front ++ s ∷ row)) (enumerate_from n row)) (sym (length_push front s)) in
+    let whole = ap (λ all. list_all (fits all) (enumerate_from (length (front ++ s ∷ [])) row)) (sym (append_assoc front (s ∷ []) row)) in
+    let ih = signs_on before (front ++ s ∷ []) row in
+    let more = ap (λ l. signs_fit l row) (sym (append_assoc before front (s ∷ []))) in
+    ap (λ l. sign_fits (before ++ l) s && list_all (fits (front ++ s ∷ row)) (enumerate_from (length front + 1) row)) (take-append_seam front (s ∷ row))
+    ∙ ap (λ t. sign_fits (before ++ front) s && t) (next ∙ whole ∙ ih ∙ more)
 
-pub sign_more : (before row : List ℕ) (i : ℕ) → i < length row → true ≡ sign_fits (before ++ take (i - 0) row) (get_or row i 0)
-    → signs_fit (before ++ take i row) (drop i row) ≡ signs_fit (before ++ take (i + 1) row) (drop (i + 1) row)
-sign_more before row i h fits =
-    sign_next before row i h ∙ ap (λ t. t && signs_fit (before ++ take (i + 1) row) (drop (i + 1) row)) (sym (rw sub-zero at fits))
-
-pub sign_wrong : (before row : List ℕ) (i : ℕ) → i < length row → false ≡ sign_fits (before ++ take (i - 0) row) (get_or row i 0)
-    → signs_fit (before ++ take i row) (drop i row) ≡ false
-sign_wrong before row i h wrong =
-    sign_next before row i h ∙ ap (λ t. t && signs_fit (before ++ take (i + 1) row) (drop (i + 1) row)) (sym (rw sub-zero at wrong))
-
-pub signs_over : (before row : List ℕ) (i : ℕ) → length row ≤ i → signs_fit before (drop i row) ≡ true
-unfolding signs_fit
-signs_over before row i h = rw (drop_all i row h)
+pub signs_are : (before row : List ℕ) → list_all (λ p. sign_fits (before ++ take p.0 row) p.1) (enumerate_from 0 row) ≡ signs_fit before row
+signs_are before row = signs_on before [] row ∙ ap (λ l. signs_fit l row) (append-nil before)
 
 -- a row more, that fits or not
-fit_more : (across : ℕ) (before : List ℕ) (rows : List (Bor (List ℕ))) (i : ℕ) (d : Bor (List ℕ)) → i < length rows
-    → true ≡ row_fits across before (get_or rows i d).now
-    → (misfit across i before (drop i (pieces rows)) ≡ misfit across (i + 1) (before ++ (get_or rows i d).now) (drop (i + 1) (pieces rows)))
-    × (before ++ signs (drop i (pieces rows)) ≡ (before ++ (get_or rows i d).now) ++ signs (drop (i + 1) (pieces rows)))
-unfolding misfit signs
-fit_more across before rows i d h fits = (
-  ap (misfit across i before) (piece_next rows i d h) ∙ cond-true _ _ _ (sym fits)
-      ∙ ap (λ k. misfit across k (before ++ (get_or rows i d).now) (drop (i + 1) (pieces rows))) (sym (add-one i)),
-  ap (λ l. before ++ signs l) (piece_next rows i d h) ∙ sym (append_assoc before (get_or rows i d).now (signs (drop (i + 1) (pieces rows)))),
-)
-
--- the same where the signs before are `was` and those after it `next`
 pub fit_turn : (across : ℕ) (was before next : List ℕ) (rows : List (Bor (List ℕ))) (i : ℕ) (d : Bor (List ℕ)) → i < length rows
     → true ≡ row_fits across was (get_or rows i d).now → was ≡ before → next ≡ before ++ (get_or rows i d).now
     → (misfit across (i + 1) next (drop (i + 1) (pieces rows)) ≡ misfit across i before (drop i (pieces rows)))
     × (next ++ signs (drop (i + 1) (pieces rows)) ≡ before ++ signs (drop i (pieces rows)))
+unfolding misfit signs
 fit_turn across was before next rows i d h fits same more =
-    let both = fit_more across before rows i d h (fits ∙ ap (λ l. row_fits across l (get_or rows i d).now) same) in (
-      ap (λ l. misfit across (i + 1) l (drop (i + 1) (pieces rows))) more ∙ sym both.0,
-      ap (λ l. l ++ signs (drop (i + 1) (pieces rows))) more ∙ sym both.1,
-    )
+    let first = piece_next rows i d h in
+    let joined = append_assoc before (get_or rows i d).now (signs (drop (i + 1) (pieces rows))) in
+    (grind (arith, nat_tests), grind (arith, nat_tests))
 
 pub fit_wrong : (across : ℕ) (before : List ℕ) (rows : List (Bor (List ℕ))) (i : ℕ) (d : Bor (List ℕ)) → i < length rows
     → false ≡ row_fits across before (get_or rows i d).now → misfit across i before (drop i (pieces rows)) ≡ Some i
 unfolding misfit
-fit_wrong across before rows i d h wrong = ap (misfit across i before) (piece_next rows i d h) ∙ cond-false _ _ _ (sym wrong)
+fit_wrong across before rows i d h wrong = let first = piece_next rows i d h in grind (arith, nat_tests)
 
 pub rows_over : (across k : ℕ) (before : List ℕ) (rows : List (Bor (List ℕ))) (i : ℕ) → length rows ≤ i
     → (misfit across k before (drop i (pieces rows)) ≡ None) × (before ++ signs (drop i (pieces rows)) ≡ before)
 unfolding misfit signs
-rows_over across k before rows i h =
-    (ap (misfit across k before) (pieces_over rows i h), ap (λ l. before ++ signs l) (pieces_over rows i h) ∙ append-nil before)
+rows_over across k before rows i h = let over = pieces_over rows i h in (grind (arith, nat_tests), grind (arith, nat_tests, append-nil))
 
--- an element more of which p holds, or not
-pub every_more : (p : ℕ → Bool) (xs : List ℕ) (i : ℕ) → i < length xs → true ≡ p (get_or xs i 0)
-    → every p (drop i xs) ≡ every p (drop (i + 1) xs)
-unfolding every
-every_more p xs i h fits = ap (every p) (drop_more xs i 0 h) ∙ ap (λ t. t && every p (drop (i + 1) xs)) (sym fits)
-
-pub every_wrong : (p : ℕ → Bool) (xs : List ℕ) (i : ℕ) → i < length xs → false ≡ p (get_or xs i 0) → every p (drop i xs) ≡ false
-unfolding every
-every_wrong p xs i h wrong = ap (every p) (drop_more xs i 0 h) ∙ ap (λ t. t && every p (drop (i + 1) xs)) (sym wrong)
-
-pub every_over : (p : ℕ → Bool) (xs : List ℕ) (i : ℕ) → length xs ≤ i → every p (drop i xs) ≡ true
-unfolding every
-every_over p xs i h = ap (every p) (drop_all i xs h)
-
--- a row more without a gap, or with one
-pub gap_more : (all : List ℕ) (rows : List (Bor (List ℕ))) (i : ℕ) (d : Bor (List ℕ)) → i < length rows
-    → true ≡ every (is_led all) (get_or rows i d).now
-    → gap i all (drop i (pieces rows)) ≡ gap (i + 1) all (drop (i + 1) (pieces rows))
-unfolding gap
-gap_more all rows i d h led =
-    ap (gap i all) (piece_next rows i d h) ∙ cond-true _ _ _ (sym led) ∙ ap (λ k. gap k all (drop (i + 1) (pieces rows))) (sym (add-one i))
-
-pub gap_here : (all : List ℕ) (rows : List (Bor (List ℕ))) (i : ℕ) (d : Bor (List ℕ)) → i < length rows
-    → false ≡ every (is_led all) (get_or rows i d).now → gap i all (drop i (pieces rows)) ≡ Some i
-unfolding gap
-gap_here all rows i d h wrong = ap (gap i all) (piece_next rows i d h) ∙ cond-false _ _ _ (sym wrong)
-
-pub gap_over : (k : ℕ) (all : List ℕ) (rows : List (Bor (List ℕ))) (i : ℕ) → length rows ≤ i → gap k all (drop i (pieces rows)) ≡ None
-unfolding gap
-gap_over k all rows i h = ap (gap k all) (pieces_over rows i h)
-
--- the square of one letter more, or none
-pub bay_more : (k : ℕ) (all : List ℕ) → k < 16 → prefix_len (other (97 + k)) all < length all
-    → bays_from (16 - k) (97 + k) all ≡ min (prefix_len (other (97 + k)) all) 65535 ∷ bays_from (16 - (k + 1)) (97 + (k + 1)) all
-unfolding bays_from
-bay_more k all h here =
-    let one : 16 - k ≡ suc (16 - (k + 1)) = omega arith in
-    let next : suc (97 + k) ≡ 97 + (k + 1) = omega arith in
-    let there : among (97 + k) all ≡ true = sym (among_is (97 + k) all) ∙ lt-ltb _ _ here in
-    ap (λ n. bays_from n (97 + k) all) one ∙ cond-true _ _ _ there
-    ∙ ap (λ c. min (prefix_len (other (97 + k)) all) 65535 ∷ bays_from (16 - (k + 1)) c all) next
-
-pub bay_over : (k : ℕ) (all : List ℕ) → k < 16 → prefix_len (other (97 + k)) all ≡ length all → bays_from (16 - k) (97 + k) all ≡ []
-unfolding bays_from
-bay_over k all h gone =
-    let one : 16 - k ≡ suc (16 - (k + 1)) = omega arith in
-    let missing : among (97 + k) all ≡ false = sym (among_is (97 + k) all) ∙ le-ltb _ _ (omega arith) in
-    ap (λ n. bays_from n (97 + k) all) one ∙ cond-false _ _ _ missing
-
-pub bays_end : (k c : ℕ) (all : List ℕ) → 16 ≤ k → bays_from (16 - k) c all ≡ []
-unfolding bays_from
-bays_end k c all h = let none : 16 - k ≡ 0 = omega arith in ap (λ n. bays_from n c all) none
+some_mapped : {e : Refusal} (o : Option ℕ) → option_map Text o ≡ Some e → (k : ℕ) × (o ≡ Some k)
+some_mapped None told = absurd (cc)
+some_mapped (Some k) told = (k, refl)
 
 -- the row at fault, from the first that does not fit and the first gap
-pub fault_misfit : (rs : List (List ℕ)) (across : ℕ) (e : Unread) → across ≡ across_of rs → Tells (misfit across 0 [] rs) e → Tells (fault rs) e
+pub fault_misfit : {A B : Type 0} (P : A → Type 0) (Q : B → Type 0) (rs : List (List ℕ)) (across : ℕ) (e : Failure) → across ≡ across_of rs
+    → UnlessMemory (Err e) (λ r. MatchResult r P (Tells (misfit across 0 [] rs))) → UnlessMemory (Err e) (λ r. MatchResult r Q (Tells (fault rs)))
 unfolding fault
-fault_misfit rs across (Line k) same told =
-    ap (λ a. or_else (misfit a 0 [] rs) (gap 0 (signs rs) rs)) (sym same) ∙ ap (λ o. or_else o (gap 0 (signs rs) rs)) told
-fault_misfit rs across Memory same told = tt
+fault_misfit P Q rs across (Refused e) same told =
+    let found = some_mapped (misfit across 0 [] rs) told in
+    let first : fault rs ≡ misfit across 0 [] rs = grind (arith, nat_tests, found.1) in
+    ap (option_map Text) first ∙ told
+fault_misfit P Q rs across Memory same told = tt
 
 pub fault_gap : (rs : List (List ℕ)) (across : ℕ) (all : List ℕ) (o : Option ℕ) → across ≡ across_of rs → misfit across 0 [] rs ≡ None
     → all ≡ signs rs → gap 0 all rs ≡ o → fault rs ≡ o
 unfolding fault
-fault_gap rs across all o same fits are here =
-    ap (λ a. or_else (misfit a 0 [] rs) (gap 0 (signs rs) rs)) (sym same) ∙ ap (λ m. or_else m (gap 0 (signs rs) rs)) fits
-    ∙ ap (λ l. gap 0 l rs) (sym are) ∙ here
+fault_gap rs across all o same fits are here = grind (arith, nat_tests)
 
-pub across_none : (rows : List (Bor (List ℕ))) → true ≡ eqb (length rows) 0 → 0 ≡ across_of (pieces rows)
-unfolding across_of
-across_none [] h = refl
-across_none (r ∷ rs) h = grind (arith, nat_tests)
+-- a sign stands somewhere exactly if it has a first place
+among_place : (c : ℕ) (s : List ℕ) → ltb (position_or_len (λ b. eqb b c) s) (length s) ≡ among c s
+unfolding among
+among_place c [] = refl
+among_place c (b ∷ bs) = grind (arith, nat_tests, among_place c bs)
 
-pub across_some : (rows : List (Bor (List ℕ))) (d : Bor (List ℕ)) → false ≡ eqb (length rows) 0 → length (get_or rows 0 d).now ≡ across_of (pieces rows)
-unfolding across_of
-across_some [] d h = grind (arith, nat_tests)
-across_some (r ∷ rs) d h = refl
+-- the square of one letter more, or none
+pub bay_more : (before next all : List ℕ) (c k u : ℕ) → c < 113 → position (λ s. eqb s c) all ≡ Some k → u ≡ min k 65535 → next ≡ before ++ u ∷ []
+    → next ++ bays_from (113 - (c + 1)) (c + 1) all ≡ before ++ bays_from (113 - c) c all
+unfolding bays_from
+bay_more before next all c k u h is least more =
+    let there = among_place c all in
+    let one : 113 - c ≡ suc (113 - (c + 1)) = omega arith in
+    grind (arith, nat_tests, append_assoc before (u ∷ []) (bays_from (113 - (c + 1)) (c + 1) all))
+
+pub bay_none : (n c : ℕ) (all : List ℕ) → position (λ s. eqb s c) all ≡ None → bays_from n c all ≡ []
+unfolding bays_from
+bay_none zero c all is = refl
+bay_none (suc n) c all is = let there = among_place c all in grind (arith, nat_tests)
+
+pub bays_over : (n c : ℕ) (all : List ℕ) → n ≡ 0 → bays_from n c all ≡ []
+unfolding bays_from
+bays_over zero c all e = refl
+bays_over (suc n) c all e = absurd (omega arith)

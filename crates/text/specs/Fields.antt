@@ -1,9 +1,10 @@
 -- A field as rows of signs: a dot for a free square, # for a wall, letters a to p for the bays of shuttles 0 to 15.
-use Rattle.std.specs.Prelude.{◌≡◌, ℕ, zero, suc, ◌-◌, min, Bool, true, cond, not, ◌&&◌, ◌||◌, List, [], ◌∷◌, ◌++◌, map, length, Some, None, Option, ◌==◌, nat_le}
+use Rattle.std.specs.Prelude.{◌≡◌, ℕ, zero, suc, ◌-◌, min, Bool, true, cond, not, ◌&&◌, ◌||◌, List, [], ◌∷◌, ◌++◌, length, Some, None, Option, ◌==◌, nat_le}
 use Rattle.std.specs.List.{prefix_len}
 use Rattle.rules.specs.Tests.{is_empty, among, every}
-use Rattle.text.specs.declared.unread.Unread.{Unread}
-use Rattle.text.specs.declared.unread.Unread.TheVariants.{Line, Memory}
+use Rattle.std.specs.Option.{option_map}
+use Rattle.field.specs.declared.refusal.Refusal.{Refusal}
+use Rattle.field.specs.declared.refusal.Refusal.TheVariants.{Text}
 
 -- the rows of a field are the lines before the first empty one
 unfoldable pub row_count : List (List ℕ) → ℕ
@@ -11,7 +12,7 @@ row_count [] = 0
 row_count (l ∷ ls) = cond (is_empty l) 0 (suc (row_count ls))
 
 -- how many squares the field is across: as many as its first row has signs
-unfoldable pub across_of : List (List ℕ) → ℕ
+abbrev pub across_of : List (List ℕ) → ℕ
 across_of [] = 0
 across_of (r ∷ rs) = length r
 
@@ -62,7 +63,7 @@ unfoldable pub fault : List (List ℕ) → Option ℕ
 fault rs = or_else (misfit (across_of rs) 0 [] rs) (gap 0 (signs rs) rs)
 
 -- marks of walls
-unfoldable pub wall_mark : ℕ → ℕ
+abbrev pub wall_mark : ℕ → ℕ
 wall_mark s = cond (s == 35) 1 0
 
 -- the square where a sign stands first
@@ -74,15 +75,6 @@ unfoldable pub bays_from : (n c : ℕ) → List ℕ → List ℕ
 bays_from zero c all = []
 bays_from (suc n) c all = cond (among c all) (min (place c all) 65535 ∷ bays_from n (suc c) all) []
 
--- rows that can be read, and the field in numbers that they show
-pub record Shows (rs : List (List ℕ)) (across down : ℕ) (walls bays : List ℕ) : Type 0 where
-  pub readable : fault rs ≡ None
-  pub is_across : across ≡ across_of rs
-  pub is_down : down ≡ length rs
-  pub are_walls : walls ≡ map wall_mark (signs rs)
-  pub are_bays : bays ≡ bays_from 16 97 (signs rs)
-
--- what is told where rows are not read: the row at fault, or want of memory
-abbrev pub Tells : Option ℕ → Unread → Type 0
-Tells at (Line k) = at ≡ Some k
-Tells at Memory = Unit {0}
+-- rows are turned away for the row at fault
+abbrev pub Tells : Option ℕ → Refusal → Type 0
+Tells at refusal = option_map Text at ≡ Some refusal

@@ -1,11 +1,11 @@
 -- A line of a route, whose it is, and what it is judged to be.
-use Rattle.std.specs.Prelude.{ℕ, ◌-◌, Bool, cond, ◌&&◌, List, length, drop, Some, None, Option, ◌==◌, nat_le, nat_lt, slice_index}
+use Rattle.std.specs.Prelude.{ℕ, ◌-◌, Bool, cond, ◌&&◌, List, length, drop, Some, None, Ok, Err, Option, Result, ◌==◌, nat_le, nat_lt, slice_index}
 use Rattle.rules.specs.Field.{Field}
+use Rattle.field.specs.declared.direction.Direction.{Direction}
+use Rattle.field.specs.declared.refusal.Refusal.{Refusal}
+use Rattle.field.specs.declared.refusal.Refusal.TheVariants.{Event, Text}
 use Rattle.route.specs.Judged.{verdict}
-use Rattle.text.specs.declared.answers.Refusal.TheVariants.{Event, Line}
 use Rattle.text.specs.declared.answers.Judgement.{Judgement}
-use Rattle.text.specs.declared.answers.Judgement.TheVariants.{Told, Turned}
-use Rattle.text.specs.declared.ways.Way.{Way}
 use Rattle.text.specs.Fields.{is_letter}
 use Rattle.text.specs.Routes.{ways_in, squares_of}
 
@@ -22,12 +22,12 @@ abbrev pub letters_of : (line : List ℕ) → List ℕ
 letters_of line = cond (prefixed line) (drop 2 line) line
 
 -- ways from the bay of shuttle i, that isn't there or whose ways are too many, or that are judged as squares; without ways the line at `place` can't be read
-unfoldable pub judged_ways : Field → (place i : ℕ) → Option (List Way) → Judgement
-judged_ways f place i None = Turned (Line place)
+unfoldable pub judged_ways : Field → (place i : ℕ) → Option (List Direction) → Result Judgement Refusal
+judged_ways f place i None = Err (Text place)
 judged_ways f place i (Some ways) =
     cond (nat_lt i f.shuttles && nat_le (length ways) 256)
-    (Told (verdict f i (f.bay i) (squares_of f.across f.down (f.bay i) ways))) (Turned Event)
+    (Ok (record { 0 = verdict f i (f.bay i) (squares_of f (f.bay i) ways) })) (Err Event)
 
 -- the k-th line of the rest, which is the line at `place` of the whole text
-abbrev pub judged_line : Field → (place k : ℕ) → (line : List ℕ) → Judgement
+abbrev pub judged_line : Field → (place k : ℕ) → (line : List ℕ) → Result Judgement Refusal
 judged_line f place k line = judged_ways f place (shuttle_of k line) (ways_in (letters_of line))

@@ -26,8 +26,3 @@ lines (b ∷ bs) = cond (b == 10) ([] ∷ lines bs) (cond (b == 13 && first_is 1
 unfoldable pub words : List ℕ → List (List ℕ)
 words [] = []
 words (b ∷ bs) = cond (b == 32) (words bs) (cond (is_empty bs || first_is 32 bs) ((b ∷ []) ∷ words bs) (put_first b (words bs)))
-
--- a line without the CR at its end
-unfoldable pub without_return : List ℕ → List ℕ
-without_return [] = []
-without_return (b ∷ bs) = cond (b == 13 && is_empty bs) [] (b ∷ without_return bs)

@@ -1,33 +1,33 @@
--- What is printed for each answer.
-use Rattle.std.specs.Prelude.{ℕ, List, ◌++◌, codes, decimal}
-use Rattle.route.specs.declared.verdict.Verdict.{Verdict}
-use Rattle.route.specs.declared.verdict.Verdict.TheVariants.{Right, WrongAt, OutsideAfter}
-use Rattle.text.specs.declared.answers.Refusal.{Refusal}
-use Rattle.text.specs.declared.answers.Refusal.TheVariants.{Field, Event, Line, Squares}
+-- What is printed.
+use Rattle.std.specs.Prelude.{ℕ, List, ◌++◌, Result, Ok, Err, codes, decimal}
+use Rattle.route.specs.declared.fault.Fault.{Fault}
+use Rattle.route.specs.Judged.{fault_text}
 use Rattle.text.specs.declared.answers.Judgement.{Judgement}
-use Rattle.text.specs.declared.answers.Judgement.TheVariants.{Told, Turned}
 use Rattle.text.specs.declared.answers.Answer.{Answer}
-use Rattle.text.specs.declared.answers.Answer.TheVariants.{Granted, Not, Refused}
-
--- a field, an event or squares that are turned away, by their number; a line that can't be read, by its number too and its place
-abbrev pub refusal_text : Refusal → List ℕ
-refusal_text Field = codes "refused 1"
-refusal_text Event = codes "refused 3"
-refusal_text (Line k) = codes "refused 4 at " ++ decimal k
-refusal_text Squares = codes "refused 5"
+use Rattle.text.specs.declared.answers.Answer.TheVariants.{Granted, Not}
+use Rattle.field.specs.declared.refusal.Refusal.TheVariants as refusal
+use Rattle.text.specs.declared.failure.Failure.{Failure}
+use Rattle.text.specs.declared.failure.Failure.TheVariants.{Refused, Memory}
 
 -- a route that is one; else its first wrong step, or, where none is wrong, how many it has
-abbrev pub verdict_text : Verdict → List ℕ
-verdict_text Right = codes "route ok"
-verdict_text (WrongAt k) = decimal k
-verdict_text (OutsideAfter n) = decimal n
+abbrev pub verdict_text : Result (Unit {0}) Fault → List ℕ
+verdict_text (Ok _) = codes "route ok"
+verdict_text (Err fault) = fault_text fault
 
 abbrev pub judgement_text : Judgement → List ℕ
-judgement_text (Told v) = verdict_text v
-judgement_text (Turned r) = refusal_text r
+judgement_text j = verdict_text j.0
 
 -- what happened, and what did not
 abbrev pub answer_text : Answer → List ℕ
 answer_text Granted = codes "granted"
 answer_text Not = codes "not"
-answer_text (Refused r) = refusal_text r
+
+-- a failure in words
+abbrev pub failure_text : Failure → List ℕ
+failure_text (Refused refusal.Field) = codes "the field has no square, or more than 64 across or down"
+failure_text (Refused refusal.Memory) = codes "the memory is not accepted"
+failure_text (Refused refusal.Event) = codes "there is no such shuttle, or the route has more than 256 letters"
+failure_text (Refused (refusal.Text line)) = codes "line " ++ decimal line ++ codes ", counted from 0, can't be read"
+failure_text (Refused refusal.Way) = codes "a square is outside the field, or there are more than eight"
+failure_text (Refused refusal.Tick) = codes "the waits or the marks of a tick are not accepted"
+failure_text Memory = codes "memory allocation failed"

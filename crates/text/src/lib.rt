@@ -2,15 +2,19 @@
 #![tactic(auto)]
 
 mod answers;
+mod failure;
+mod field_text;
 mod fields;
+mod gathering;
 mod judging;
 mod lines;
-mod unread;
 mod ways;
 
-pub use answers::{Answer, Judgement, Refusal};
-pub use fields::{FieldText, read_field, rows_in};
+pub use answers::{Answer, Judgement};
+pub use failure::Failure;
+pub use field_text::FieldText;
+pub use fields::{is_bay_letter, read_field, rows_in};
+pub use gathering::gather;
 pub use judging::judge_line;
-pub use lines::{bytes_before, lines_of, words_of};
-pub use unread::Unread;
-pub use ways::{Way, read_ways, squares_on};
+pub use lines::{lines_of, words_of};
+pub use ways::{read_ways, squares_on};

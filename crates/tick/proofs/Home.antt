@@ -14,17 +14,17 @@ use Rattle.tick.specs.Home.{MemoryComesHome}
 
 pub memory_comes_home : MemoryComesHome
 unfolding TickSays field_in
-memory_comes_home a d ws bs memory waits marks answer late r c t h =
-    let f = field_in a d ws bs in
+memory_comes_home lent memory waits marks answer late r c t h =
+    let f = field_in lent in
     let es = r.begins.0 in
     let played = r.begins.1 in
-    let start : shuttle_in (memory 0) ≡ after f es = fun_ext (follows a d ws bs es (memory 0) played).1 in
+    let start : shuttle_in (memory 0) ≡ after f es = fun_ext (follows lent es (memory 0) played).1 in
     home_in_time f es (λ t. shuttle_in (memory t)) marks (λ t. (tick f (shuttle_in (memory t)) (waits t) (marks t)).whose) late
-    (accepted a d ws bs (played_field a d ws bs es (memory 0) played)).is_sound start each c t
-    (subst (λ g. suc (sum_to squares_left g (length bs)) * max late 1 ≤ t) start h)
+    (accepted lent (played_field lent es (memory 0) played)).is_sound start each c t
+    (subst (λ g. suc (sum_to squares_left g (length lent.bays)) * max late 1 ≤ t) start h)
   where
-    each : (t : ℕ) → AnyTick (field_in a d ws bs) (shuttle_in (memory t)) (marks t)
-        (tick (field_in a d ws bs) (shuttle_in (memory t)) (waits t) (marks t)).whose (shuttle_in (memory (suc t)))
+    each : (t : ℕ) → AnyTick (field_in lent) (shuttle_in (memory t)) (marks t)
+        (tick (field_in lent) (shuttle_in (memory t)) (waits t) (marks t)).whose (shuttle_in (memory (suc t)))
     each t =
-        let any = tick_any (field_in a d ws bs) (shuttle_in (memory t)) (waits t) (marks t) in
+        let any = tick_any (field_in lent) (shuttle_in (memory t)) (waits t) (marks t) in
         record { made = fun_ext (r.made t).shuttles ∙ any.made; right = any.right }

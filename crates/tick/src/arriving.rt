@@ -1,21 +1,18 @@
 // The arrivals of a tick.
-ghost use Rattle.std.specs.Prelude.{◌≡◌, ◌*◌, true, length};
-ghost use Rattle.rules.specs.Memory.{memory_ok};
-ghost use Rattle.field.specs.Model.{field_of};
-ghost use Rattle.tick.specs.Tick.{come_in};
+ghost use Rattle.std.specs.Prelude.{◌≡◌, length};
+ghost use Rattle.tick.specs.Coming.{CameIn};
 
-use field::Field;
 use hall::take_arrival;
+use memory::Hall;
 
 // Makes the arrivals that are due, in the order of the shuttles; one that does not move stays as it is.
-pub fn make_arrivals(field: &Field, memory: &mut [u16], due: &[u8])
-    requires accepted { memory_ok (field.now.across * field.now.down) (length field.now.bays.now) memory.old ≡ true }
-    requires each { length due.now ≡ length field.now.bays.now }
-    ensures { memory.new ≡ come_in (field_of field.now) memory.old due.now (length field.now.bays.now) }
+pub fn make_arrivals(hall: &mut Hall, due: &[u8])
+    requires { length due.now ≡ length hall.old.field.bays.now }
+    ensures { CameIn hall.old hall.new due.now (length hall.old.field.bays.now) }
 {
-    for i in 0..due.len() {
-        if due[i] == 1 {
-            let _comes = take_arrival(field, memory, i);
+    for (i, mark) in due.iter().enumerate() {
+        if *mark == 1 {
+            let _comes = take_arrival(hall, i);
         }
     }
 }

@@ -6,9 +6,7 @@ mod choosing;
 mod entry;
 mod lent;
 mod theorem;
-mod ticked;
 mod waiting;
 
 pub use entry::tick;
 pub use theorem::memory_comes_home_stands;
-pub use ticked::Ticked;

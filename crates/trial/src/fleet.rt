@@ -18,7 +18,8 @@ impl Shuttle {
     }
 }
 
-// Written out as a loop: what is left of each route is allocated, and that can fail.
+// Written out as a loop: what is left of each route is allocated, which can fail, and a part that is too short is passed over,
+// for which the library's chains have no plainer form.
 pub fn read(rt: &HostRuntime, memory: &[u16]) -> io::Result<Vec<Shuttle>> {
     let mut fleet = Vec::new(rt.alloc());
     for part in memory.chunks(PER_SHUTTLE) {

@@ -1,7 +1,7 @@
 -- The bound on coming home: from one grant to the next at most so many ticks pass, and so many more until the last has arrived.
 use Rattle.std.proofs.Common.{◌≡◌, ℕ, zero, suc, ◌+◌, ◌-◌, ◌*◌, ◌<◌, ◌≤◌, max, Bool, true, false, ltb, ◌⊎◌, refl, ap, ◌∙◌, subst, inl, inr, ⊎_elim, arith}
-use Rattle.std.proofs.lemmas.Bool.{both_ways, cases_lt, ltb-true, ltb-false}
-use Rattle.agents.proofs.Tests.{some_below, false_from}
+use Rattle.std.proofs.lemmas.Bool.{both_ways, cases_lt, ltb-true, ltb-false, false_from_ne_true}
+use Rattle.agents.proofs.Tests.{some_below}
 use Rattle.turns.specs.Bound.{Ticking, ComesWithin, AllDoneInTime}
 
 -- whoever is on its way at any time is due within the next d ticks
@@ -35,10 +35,7 @@ module _ (n : ℕ) (left : ℕ → ℕ) (moves due : ℕ → ℕ → Bool) (whos
 
   -- what is left never grows
   falls : (t m : ℕ) → left (t + m) ≤ left t
-  falls t zero = omega (arith, ap left (the (t + 0) t (omega arith)))
-    where
-      the : (a b : ℕ) → a ≡ b → a ≡ b
-      the a b e = e
+  falls t zero = let e : t + 0 ≡ t = omega arith in omega (arith, ap left e)
   falls t (suc m) =
       let h = falls t m in
       let e : left (t + suc m) ≡ left (suc (t + m)) = ap left (omega arith) in
@@ -48,7 +45,7 @@ module _ (n : ℕ) (left : ℕ → ℕ) (moves due : ℕ → ℕ → Bool) (whos
   module _ (d : ℕ) (c : ComesWithin n moves due whose d) where
     -- after as many ticks without a grant nobody is on its way
     at_rest : (t : ℕ) → ((k : ℕ) → k < max d 1 → n ≤ whose (t + k)) → (i : ℕ) → i < n → moves (t + max d 1) i ≡ false
-    at_rest t g i l = false_from _ (λ e.
+    at_rest t g i l = false_from_ne_true _ (λ e.
         let first : moves t i ≡ true = back (max d 1) g e in
         let (k, a, b) = due_soon n moves due whose d r.on_its_way c t i l first in
         both_ways _ (still t (max d 1) g i l e k (omega arith)) b)

@@ -1,6 +1,6 @@
 -- Coming home by ticks: the fleets of a row of ticks are ticking, so the bound holds of them.
 use Rattle.std.proofs.Common.{◌≡◌, ℕ, zero, suc, ◌*◌, ◌<◌, ◌≤◌, max, Bool, true, false, ◌&&◌, List, ◌∷◌, ◌++◌, length, sym, refl, ap, ◌∙◌, subst, inl, inr, ⊎_elim, arith}
-use Rattle.std.proofs.lemmas.Bool.{both_ways, cases_eq, cases_lt, cond_both, and_parts}
+use Rattle.std.proofs.lemmas.Bool.{both_ways, cases_eq, cases_lt, cond_both, and_parts, false_from_ne_true}
 use Rattle.std.proofs.lemmas.Bool.Decides.{nat_tests}
 use Rattle.rules.specs.Tests.{is_empty}
 use Rattle.rules.specs.Field.{Field, sound}
@@ -8,16 +8,15 @@ use Rattle.rules.specs.Shuttle.{Shuttle, Fleet, put, arrived}
 use Rattle.rules.specs.Event.{Event, step, grants, arrives, does, who, becomes, happens, after}
 use Rattle.rules.proofs.Tests.{empty_tells, empty_from}
 use Rattle.agents.specs.Kinds.{put as with_agent}
-use Rattle.agents.proofs.Tests.{false_from}
 use Rattle.agents.proofs.Fleets.{put_other}
 use Rattle.promise.specs.Promise.{SomeMoves, SomeGranted, AllHome, sum_to, squares_left}
 use Rattle.promise.proofs.Events.{grants_tells}
-use Rattle.promise.proofs.GoingOn.{never_stuck}
+use Rattle.promise.proofs.GoingOn.{never_stuck, not_done}
 use Rattle.promise.proofs.Home.{less_left, ends_home}
 use Rattle.turns.specs.Tick.{is_due, all_come, counted, chosen, granted_to, choose, tick}
 use Rattle.turns.specs.Bound.{Ticking}
 use Rattle.turns.specs.Home.{AnyTick, ArrivalsWithin, HomeInTime, ticks, HomeByTicks}
-use Rattle.turns.proofs.Ticks.{due_come, Best, choice, come_row, not_done, none_granted}
+use Rattle.turns.proofs.Ticks.{due_come, Best, choice, come_row, none_granted}
 use Rattle.turns.proofs.Bounds.{all_done_in_time}
 
 -- sums
@@ -128,7 +127,7 @@ module _ (f : Field) (es : List Event) (fleets : ℕ → Fleet) (marks : ℕ →
         let a = all_come_left f (fleets t) (marks t) in
         let (i, b, c) = sum_some squares_left (at_choice t) f.shuttles (omega arith) in
         let c' : 0 < length (after f rs i).route = subst (λ x. 0 < length (x i).route) e c in
-        let some : is_empty (after f rs i).route ≡ false = false_from _ (λ y. let y' = empty_tells _ y in omega arith) in
+        let some : is_empty (after f rs i).route ≡ false = false_from_ne_true _ (λ y. let y' = ap length (empty_tells _ y) in omega arith) in
         ⊎_elim
         (λ (s : SomeMoves f (after f rs)). (s.0, s.1, ap (λ x. (x s.0).moving) (nobody_steps t l ∙ e) ∙ s.2))
         (λ (s : SomeGranted f (after f rs)). absurd (⊎_elim
@@ -153,9 +152,9 @@ module _ (f : Field) (es : List Event) (fleets : ℕ → Fleet) (marks : ℕ →
       (subst (λ x. suc x * max d 1 ≤ t) (sym e) h) in
       let (rs, r) = reached t in
       subst (AllHome f) (sym r) (ends_home f rs ok
-      (λ i l. false_from _ (λ y. let s = (grants_tells f (after f rs) i y).something_left in
+      (λ i l. false_from_ne_true _ (λ y. let s = (grants_tells f (after f rs) i y).something_left in
       both_ways _ s (empty_from _ (ap (λ x. length (x i).route) (sym r) ∙ sum_none squares_left (fleets t) f.shuttles done.0 i l))))
-      (λ i l. false_from _ (λ y. both_ways _ (ap (λ x. (x i).moving) (sym r) ∙ done.1 i l) (and_parts _ _ y).1)))
+      (λ i l. false_from_ne_true _ (λ y. both_ways _ (ap (λ x. (x i).moving) (sym r) ∙ done.1 i l) (and_parts _ _ y).1)))
 
 pub home_in_time : HomeInTime
 home_in_time f es fleets marks whose d ok start each c t h = home f es fleets marks whose ok start each d c t h

@@ -1,7 +1,7 @@
 -- Nights: orders and ticks from one choice to the next, and so that nobody starves and each comes home.
 use Rattle.std.proofs.Common.{◌≡◌, ℕ, zero, suc, ◌+◌, ◌*◌, ◌<◌, ◌≤◌, true, false, cond, ◌&&◌, eqb, ◌⊎◌, List, ◌∷◌, length, get_or, set, sym, refl, ap, ◌∙◌, subst, inl, inr, ⊎_elim, arith}
 use Rattle.std.proofs.lemmas.Bool.{both_ways, cases_Bool, cases_eq, cond-true, cond-false, eq-eqb, ne_eqb}
-use Rattle.std.proofs.lemmas.List.{nil_from_length, length-set, get_or-set_same, get_or-set_other}
+use Rattle.std.proofs.lemmas.List.{length-set, get_or-set_same, get_or-set_other}
 use Rattle.std.proofs.lemmas.Bool.Decides.{nat_tests}
 use Rattle.rules.specs.Tests.{is_empty}
 use Rattle.rules.specs.Field.{Field}
@@ -12,13 +12,13 @@ use Rattle.agents.proofs.Fleets.{put_here}
 use Rattle.rules.proofs.Tests.{empty_tells}
 use Rattle.promise.proofs.Places.{steps, idle_home}
 use Rattle.promise.proofs.Events.{takes_tells, grants_tells, Good, good_after}
-use Rattle.promise.proofs.GoingOn.{done}
+use Rattle.promise.proofs.GoingOn.{done, not_done}
 use Rattle.promise.proofs.Home.{same_shuttle}
 use Rattle.turns.specs.Tick.{is_due, all_come, waits, one_more, counted, chosen, Turn, granted_to, choose, tick}
 use Rattle.turns.specs.Night.{give, give_to, all_given, next, night, NightsAreRows}
 use Rattle.turns.specs.Parts.{AtMostTwo}
 use Rattle.turns.specs.Waiting.{AnyNight, most_ticks, NobodyStarves, EachComesHome}
-use Rattle.turns.proofs.Ticks.{due_come, counted_length, counts_all, Best, choice, not_done}
+use Rattle.turns.proofs.Ticks.{due_come, counted_length, counts_all, Best, choice}
 use Rattle.turns.proofs.Bounds.{due_soon}
 use Rattle.turns.proofs.Home.{others_stay, all_come_moves, Reached, come_reached}
 use Rattle.turns.proofs.Parts.{PlacedOwn, placed_own}
@@ -362,7 +362,7 @@ module _ (f : Field) (s : Turn) (orders : ℕ → ℕ → List ℕ) (marks : ℕ
         suc k,
         omega arith,
         subst (λ u. (now u).fleet i ≡ at_home f i) j
-            (e ∙ same_shuttle (fleet_at (t + k) i) (at_home f i) at y (p.stands_on y ∙ at) (nil_from_length _ (empty_tells _ z))),
+            (e ∙ same_shuttle (fleet_at (t + k) i) (at_home f i) at y (p.stands_on y ∙ at) (empty_tells _ z)),
       )
 
 pub nobody_starves : NobodyStarves

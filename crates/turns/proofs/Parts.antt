@@ -1,6 +1,6 @@
 -- Parts of a field: where a shuttle can be, who can hold a square of its route, and that it is granted its step where nobody does.
 use Rattle.std.proofs.Common.{◌≡◌, ℕ, ◌<◌, ◌≤◌, Bool, true, false, eqb, ◌⊎◌, List, [], ◌∷◌, length, get_or, sym, refl, ap, ◌∙◌, subst, inl, inr, ⊎_elim, arith}
-use Rattle.std.proofs.lemmas.Bool.{both_ways, cond_both, and_parts, and_from, or_cases, or_left, or_right, not-true, eqb-true}
+use Rattle.std.proofs.lemmas.Bool.{both_ways, cond_both, and_parts, and_from, or_cases, or_left, or_right, not-true, eqb-true, false_from_ne_true}
 use Rattle.std.proofs.lemmas.Bool.Decides.{nat_tests}
 use Rattle.rules.specs.Tests.{among, is_empty}
 use Rattle.rules.specs.Field.{Field, is_bay, free_square, sound, beside}
@@ -10,7 +10,7 @@ use Rattle.rules.specs.Event.{Event, order, step, arrive, takes, grants, arrives
 use Rattle.agents.specs.Numbers.{among as is_in}
 use Rattle.agents.specs.Going.{CanGo, goes}
 use Rattle.agents.specs.Kinds.{put as with_agent, FreeFor}
-use Rattle.agents.proofs.Tests.{false_from, meets_tells}
+use Rattle.agents.proofs.Tests.{meets_tells}
 use Rattle.agents.proofs.Fleets.{put_each}
 use Rattle.agents.proofs.Grants.{may_free}
 use Rattle.promise.specs.Promise.{Placed}
@@ -173,7 +173,7 @@ clear_granted f g p i l m e q =
     let n = f.shuttles in
     let h = steps (g i) e in
     let free : (cs : List ℕ) → ((c : ℕ) → is_in c cs ≡ true → among c (g i).route ≡ true) → FreeFor shuttles n g i cs = λ cs sub j b ne.
-    false_from _ (λ v. let (c, x, y) = meets_tells (shuttles.held (g j)) cs v in
+    false_from_ne_true _ (λ v. let (c, x, y) = meets_tells (shuttles.held (g j)) cs v in
     both_ways _ (q j b ne c (sub c y)) (sym (holds_is (g j) c) ∙ x)) in
     grants_from f g i (record {
       there = l;

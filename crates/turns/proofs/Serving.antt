@@ -1,12 +1,12 @@
 -- Whoever waits gets its step, in a field in which no part touches three bays: over the fleets at the choices of a row of ticks.
 use Rattle.std.proofs.Common.{◌≡◌, ℕ, zero, suc, ◌+◌, ◌*◌, ◌<◌, ◌≤◌, Bool, true, false, cond, not, ◌&&◌, eqb, ◌⊎◌, List, [], ◌∷◌, length, get_or, sym, refl, ap, ◌∙◌, subst, inl, inr, ⊎_elim, arith}
-use Rattle.std.proofs.lemmas.Bool.{both_ways, cases_Bool, cases_eq, cond-true, cond-false, cond_both, and_parts, and_from, or_cases, not-true, not_from_false, eqb-true, eqb-false, eq-eqb, ne_eqb}
+use Rattle.std.proofs.lemmas.Bool.{both_ways, cases_Bool, cases_eq, cond-true, cond-false, cond_both, and_parts, and_from, or_cases, not-true, not_from_false, eqb-true, eqb-false, eq-eqb, ne_eqb, false_from_ne_true}
 use Rattle.rules.specs.Tests.{among, is_empty}
 use Rattle.rules.specs.Field.{Field, sound}
 use Rattle.rules.specs.Route.{route_ok}
 use Rattle.rules.specs.Shuttle.{Shuttle, Fleet, holds}
 use Rattle.rules.proofs.Tests.{empty_from}
-use Rattle.agents.proofs.Tests.{some_below, false_from}
+use Rattle.agents.proofs.Tests.{some_below}
 use Rattle.promise.proofs.Shuttles.{blocks_is}
 use Rattle.promise.proofs.Places.{bays_differ, route_avoids, idle_home}
 use Rattle.turns.specs.Tick.{waits, one_more}
@@ -103,7 +103,7 @@ module _ (f : Field) (ok : sound f ≡ true) (two : AtMostTwo f) (d : ℕ) (h : 
         (only : (j : ℕ) → j < f.shuttles → (a ≡ j → ⊥) → touches f (parts f) j p ≡ true → j ≡ b) where
       -- if b stands beside its way, a is clear
       a_clear : (t : ℕ) → h t a ≡ s → (h t b).moving ≡ false → among (h t b).at s.route ≡ false → Clear f (h t) a
-      a_clear t e v u j mj nj x i = false_from _ (λ y.
+      a_clear t e v u j mj nj x i = false_from_ne_true _ (λ y.
           let i' = subst (λ q. among x q.route ≡ true) e i in
           ⊎_elim
           (λ (z : x ≡ f.bay a). own_bay t a j l mj nj (subst (λ q. holds (h t j) q ≡ true) z y))
@@ -115,7 +115,7 @@ module _ (f : Field) (ok : sound f ≡ true) (two : AtMostTwo f) (d : ℕ) (h : 
 
       -- if b stands in its way, b is clear
       b_clear : (t : ℕ) → h t a ≡ s → (h t b).moving ≡ false → among (h t b).at s.route ≡ true → Clear f (h t) b
-      b_clear t e v u j mj nj x i = false_from _ (λ y. ⊎_elim
+      b_clear t e v u j mj nj x i = false_from_ne_true _ (λ y. ⊎_elim
           (λ (z : x ≡ f.bay b). own_bay t b j m mj nj (subst (λ q. holds (h t j) q ≡ true) z y))
           (λ (z : (open_square f x ≡ true) × (get_or (parts f) x 0 ≡ get_or (parts f) (h t b).at 0)).
           let t' : touches f (parts f) j p ≡ true = subst (λ q. touches f (parts f) j q ≡ true) (z.1 ∙ place.1)
@@ -191,7 +191,7 @@ module _ (f : Field) (ok : sound f ≡ true) (two : AtMostTwo f) (d : ℕ) (h : 
           (k, x, j.0, ⊎_elim (λ v. v) (λ (v : ⊥). absurd v) q)
         where
           first : (t : ℕ) → Behind t → (c t < f.shuttles) × (w t a ≤ w t (c t))
-          first t j = clear_longest t j.0 (a_clear t j.0 j.1 (false_from _ (λ i.
+          first t j = clear_longest t j.0 (a_clear t j.0 j.1 (false_from_ne_true _ (λ i.
               ne (route_avoids f ok a b l m (h t a).at (h t a).route ((r.good t).each a l).on_route
               (subst (λ q. among (f.bay b) q.route ≡ true) (sym j.0) (subst (λ q. among q s.route ≡ true) j.2 i))))))
 
@@ -259,7 +259,7 @@ module _ (f : Field) (ok : sound f ≡ true) (two : AtMostTwo f) (d : ℕ) (h : 
     to_bay : (t : ℕ) → h t a ≡ s → (x : ℕ) (xs : List ℕ) → s.route ≡ x ∷ xs → x ≡ f.bay a → is_empty xs ≡ true →
         Served (257 * (f.shuttles + d)) t
     unfolding is_empty among
-    to_bay t e₀ x xs e q u = few t (alone (λ t' e' j m ne y i. false_from _ (λ o.
+    to_bay t e₀ x xs e q u = few t (alone (λ t' e' j m ne y i. false_from_ne_true _ (λ o.
         let z : y ≡ f.bay a = last xs u y (subst (λ k. among y k ≡ true) (ap (λ k. k.route) e' ∙ e) i) ∙ q in
         own_bay t' a j l m ne (subst (λ y. holds (h t' j) y ≡ true) z o))) t e₀)
       where
@@ -289,7 +289,7 @@ module _ (f : Field) (ok : sound f ≡ true) (two : AtMostTwo f) (d : ℕ) (h : 
           (two_touch f two a b j (get_or (parts f) x 0) l m mj touches_a q₂ tj))
           256 t e₀ (r.own t b m).short)
           (λ (g : (j : ℕ) → j < f.shuttles → (not (eqb a j) && touches f (parts f) j (get_or (parts f) x 0)) ≡ false).
-          few t (alone (λ t' e' j m ne y i. false_from _ (λ v. ⊎_elim
+          few t (alone (λ t' e' j m ne y i. false_from_ne_true _ (λ v. ⊎_elim
           (λ (z : y ≡ f.bay a). own_bay t' a j l m ne (subst (λ y. holds (h t' j) y ≡ true) z v))
           (λ (z : (open_square f y ≡ true) × (get_or (parts f) y 0 ≡ get_or (parts f) x 0)). both_ways _ (g j m)
           (and_from _ _ (not_from_false _ (ne_eqb a j ne))

@@ -11,8 +11,9 @@ use Rattle.turns.specs.Tick.{is_due, come, come_to, all_come, waits, one_more, c
 use Rattle.turns.specs.Tick.{chosen, Turn, granted_to, choose, tick}
 use Rattle.turns.specs.Night.{give, give_to, all_given, next, night}
 use Rattle.turns.specs.Starving.{corner, way, since, again, at_once, hall, Starves}
-use Rattle.turns.proofs.Ticks.{none_granted, not_done}
+use Rattle.turns.proofs.Ticks.{none_granted}
 use Rattle.turns.proofs.Home.{others_stay}
+use Rattle.promise.proofs.GoingOn.{not_done}
 
 -- nobody beyond the fleet changes
 module _ (f : Field) (i : ℕ) (l : f.shuttles ≤ i) where
@@ -215,12 +216,10 @@ unfolding phase
 hall_is zero = first_six.5
 hall_is (suc t) =
     let n : ℕ = 6 + t in
-    ap hall (the (6 + suc t) (suc n) (omega arith)) ∙ one_on n (at_phase (phase t) (suc t))
+    let e : 6 + suc t ≡ suc n = omega arith in
+    ap hall e ∙ one_on n (at_phase (phase t) (suc t))
     (at_phase (after_phase (phase t)) (suc (suc t))) (hall_is t)
     (later n (at_phase (phase t) (suc t)) (omega arith) ∙ turns_on (suc t) (phase t) (phase_below t))
-  where
-    the : (x y : ℕ) → x ≡ y → x ≡ y
-    the x y e = e
 
 -- what holds of each state holds of the hall from the sixth tick on
 from_six : (P : Turn → Type 0) → ((u p : ℕ) → p < 8 → P (at_phase p u)) → (t : ℕ) → P (hall (6 + t))

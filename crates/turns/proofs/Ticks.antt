@@ -9,6 +9,7 @@ use Rattle.rules.specs.Event.{Event, step, arrive, grants, arrives, does, who, b
 use Rattle.agents.specs.Kinds.{put as with_agent}
 use Rattle.agents.proofs.Fleets.{put_here, put_other}
 use Rattle.promise.specs.Promise.{no_order, Drives, nothing, then}
+use Rattle.promise.proofs.GoingOn.{not_done}
 use Rattle.turns.specs.Tick.{is_due, come, come_to, all_come, waits, one_more, counted_to, counted, better, chosen_to}
 use Rattle.turns.specs.Tick.{chosen, granted_to, choose, tick}
 use Rattle.turns.specs.Rows.{due_arrival, due_arrivals, TicksAreRows, DueCome, WaitsCount, LongestFirst}
@@ -201,10 +202,6 @@ pub longest_first : LongestFirst
 longest_first f g ws = ⊎_elim (λ (t : Best f g ws f.shuttles (chosen f g ws)). inl (t.below, t.granted, t.longest)) inr (choice f g ws)
 
 -- an event that does not happen changes nothing
-pub not_done : (f : Field) (g : Fleet) (e : Event) → does f g e ≡ false → happens f g e ≡ g
-unfolding happens
-not_done f g e h = cond-false (does f g e) (put g (who e) (becomes e (g (who e)))) g h
-
 -- the arrivals of a tick are a row
 pub record ComeRow (f : Field) (es : List Event) (marks : List ℕ) (g : Fleet) : Type 0 where
   pub ds : List Event

@@ -2,13 +2,13 @@
 -- three.
 use Rattle.std.specs.Prelude.{◌≡◌, true, false, [], ◌∷◌}
 use Rattle.rules.specs.Field.{Field, sound}
-use Rattle.rules.specs.Memory.{field_in}
+use Rattle.rules.specs.Memory.{field_numbers, field_in}
 use Rattle.turns.specs.Parts.{at_most_two}
 use Rattle.turns.specs.Starving.{corner}
 
 -- the rows `a.b`, `###` and `c.d`
 unfoldable pub lanes : Field
-lanes = field_in 3 3 (0 ∷ 0 ∷ 0 ∷ 1 ∷ 1 ∷ 1 ∷ 0 ∷ 0 ∷ 0 ∷ []) (0 ∷ 2 ∷ 6 ∷ 8 ∷ [])
+lanes = field_in (field_numbers 3 3 (0 ∷ 0 ∷ 0 ∷ 1 ∷ 1 ∷ 1 ∷ 0 ∷ 0 ∷ 0 ∷ []) (0 ∷ 2 ∷ 6 ∷ 8 ∷ []))
 
 pub record BothKinds : Type 0 where
   pub lanes_sound : sound lanes ≡ true

@@ -55,7 +55,7 @@ touches f ps i p = any_to (λ c. at_bay f i c && slice_index ps c == p) (f.acros
 
 -- three do not all touch part p, or two of them are the same
 unfoldable pub not_three : Field → List ℕ → (i j k p : ℕ) → Bool
-not_three f ps i j k p = (i == j || (i == k || j == k)) || not (touches f ps i p && (touches f ps j p && touches f ps k p))
+not_three f ps i j k p = i == j || (i == k || j == k) || not (touches f ps i p && (touches f ps j p && touches f ps k p))
 
 -- so for every three shuttles and every square's part
 unfoldable pub never_three : Field → List ℕ → Bool

@@ -1,25 +1,20 @@
 // The squares of a field that one may enter on any leg.
-ghost use Rattle.std.specs.Prelude.{◌≡◌, length};
+ghost use Rattle.std.specs.Prelude.{◌≡◌, replicate};
 ghost use Rattle.field.specs.Model.{field_of};
-ghost use Rattle.ways.proofs.Ground.{Ground};
+ghost use Rattle.ways.specs.Distances.{Ground};
 
-use super::spread::FAR;
+use super::sizes::{FAR, SHUT, Table};
 use field::Field;
 
-// Stands in a table for a square that may not be entered.
-const SHUT: u16 = 65534;
-
-// Makes a table with FAR for each square that is free and nobody's bay, and SHUT for all else.
-pub fn mark_ground(field: &Field, table: &mut [u16])
-    requires { length table.old ≡ 4096 }
+// Opens in a table that is all shut the squares that are free and nobody's bay. One that is answered was tried: it is copied
+// twice, and the way through a small hall takes half as long again.
+pub fn open_ground(field: &Field, table: &mut Table)
+    requires { table.old ≡ replicate 4096 65534 }
     ensures { Ground (field_of field.now) table.new }
 {
-    table.fill(SHUT);
-    let squares = field.walls.len() as u16;
-    for square in 0..squares {
-        if field.is_free(square) {
-            table[square as usize] = FAR;
-        }
+    // by its number, since after a `zip` of `iter_mut` nothing is known of what was written
+    for (square, mark) in field.walls.iter().enumerate() {
+        table[square] = if *mark == 0 { FAR } else { SHUT };
     }
     for bay in field.bays {
         table[*bay as usize] = SHUT;

@@ -1,15 +1,13 @@
 // The shortest way of a shuttle through a row of squares and into its bay, the first by right, down, left, up.
 #![tactic(auto)]
 
-mod answer;
-mod around;
 mod asked;
 mod find;
 mod ground;
 mod leg;
 mod legs;
+mod sizes;
 mod spread;
 mod walk;
 
-pub use answer::Way;
 pub use find::way;

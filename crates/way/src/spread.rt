@@ -1,74 +1,69 @@
 // Distances to the goal of a leg, which spread from it square by square.
-ghost use Rattle.std.specs.Prelude.{◌≡◌, suc, ◌+◌, ◌<◌, ◌≤◌, true, false, length};
-ghost use Rattle.ways.proofs.Expand.{distance_in, unknown};
-ghost use Rattle.way.specs.Table.{OverGround, Ready, Shut, Spreads, Waiting, Measured, Bounded};
-
-use super::around::around;
 use super::leg::Leg;
+use super::sizes::{FAR, Queue, SQUARES, Table};
+use field::Direction;
 
-// Stands for the distance of a square that none has come to yet.
-pub const FAR: u16 = 65535;
+impl Leg<'_> {
+    ghost use Rattle.std.specs.Prelude.{◌≡◌, suc, ◌+◌, ◌≤◌, length};
+    ghost use Rattle.field.specs.Model.{field_of};
+    ghost use Rattle.ways.specs.Good.{enter};
+    ghost use Rattle.ways.specs.Distances.{unknown};
+    ghost use Rattle.way.specs.Table.{Ready, Waiting, Spreads, Measured, Distance};
 
-// Makes the table of a leg: the goal is known, every other square that may be entered, and the start, is not known yet. Answers whether the goal may be entered.
-fn prepare(leg: &Leg, ground: &[u16], distances: &mut [u16]) -> bool
-    requires long { (length ground.now ≡ 4096) × (length distances.old ≡ 4096) }
-    requires over { OverGround leg.now ground.now }
-    ensures open { result ≡ true → Ready leg.now distances.new }
-    ensures shut { result ≡ false → Shut leg.now }
-{
-    let goal = leg.goal as usize;
-    let open = ground[goal] == FAR || (leg.last && leg.field.is_free(leg.goal));
-    distances.copy_from_slice(ground);
-    distances[leg.start as usize] = FAR;
-    distances[goal] = 0;
-    open
-}
+    // Whether the goal may be entered.
+    #[tactic(auto, using(std::proofs::lemmas::Bool::Decides::nat_tests, crate::proofs::Size::open_is))]
+    fn is_open(&self) -> bool
+        ensures { result ≡ enter (field_of self.now.field) self.now.goal self.now.last self.now.goal }
+    {
+        self.ground[self.goal as usize] == FAR || (self.last && self.field.is_free(self.goal))
+    }
 
-// Gives each square around the first of the queue that none has come to yet its distance, and puts it at the queue's end; answers how many the queue then has.
-fn expand(leg: &Leg, head: usize, tail: usize, distances: &mut [u16], queue: &mut [u16]) -> usize
-    requires { Waiting leg.now distances.old queue.old head tail }
-    ensures room { result + unknown distances.new ≤ 4096 }
-    ensures spreading { Spreads leg.now distances.new queue.new (suc head) result }
-{
-    let square = queue[head];
-    let next = distances[square as usize] + 1;
-    let mut tail = tail;
-    for d in around(&leg.field, square) {
-        if distances[d as usize] == FAR {
-            distances[d as usize] = next;
-            queue[tail] = d;
-            tail += 1;
+    // Gives each square beside the one at this place of the queue that none has come to yet its distance, and puts it at the queue's end.
+    fn expand(&self, head: usize, distances: &mut Table, queue: &mut Queue)
+        requires { Waiting self.now distances.old queue.old.items head }
+        ensures room { length queue.new.items + unknown distances.new ≤ 4096 }
+        ensures spreading { Spreads self.now distances.new queue.new.items (suc head) }
+    {
+        let square = queue[head];
+        let next = distances[square as usize] + 1;
+        for direction in Direction::ALL {
+            if let Some(to) = self.field.next(square, direction)
+                && distances[to as usize] == FAR
+            {
+                distances[to as usize] = next;
+                queue.push(to);
+            }
         }
     }
-    tail
-}
 
-// Spreads the distances until the start's is known or none is left in the queue.
-fn spread(leg: &Leg, distances: &mut [u16], queue: &mut [u16])
-    requires long { (length distances.old ≡ 4096) × (length queue.old ≡ 4096) }
-    requires ready { Ready leg.now distances.old }
-    ensures { Measured leg.now distances.new }
-{
-    queue[0] = leg.goal;
-    let mut head = 0;
-    let mut tail = 1;
-    while head < tail && distances[leg.start as usize] == FAR {
-        tail = expand(leg, head, tail, distances, queue);
-        head += 1;
+    // Spreads the distances until the start's is known or none is left in the queue.
+    fn spread(&self, distances: &mut Table)
+        requires { Ready self.now distances.old }
+        ensures { Measured self.now distances.new }
+    {
+        let mut queue = Queue::new();
+        queue.push(self.goal);
+        // The queue grows while it is gone through; one that gives up its first would need the heap.
+        for head in 0..SQUARES {
+            if head == queue.len() || distances[self.start as usize] != FAR {
+                break;
+            }
+            self.expand(head, distances, &mut queue);
+        }
     }
-}
 
-// The distance from the leg's start to its goal, or FAR if there is none; the table then has the distances of the squares between.
-pub fn measure(leg: &Leg, ground: &[u16], distances: &mut [u16]) -> u16
-    requires long { (length ground.now ≡ 4096) × (length distances.old ≡ 4096) }
-    requires over { OverGround leg.now ground.now }
-    ensures bounded { Bounded leg.now result }
-    ensures measured { result < 65534 → Measured leg.now distances.new × (distance_in distances.new leg.now.start ≡ result) }
-{
-    if !prepare(leg, ground, distances) {
-        return FAR;
+    // Makes the ground the distances of the leg, and answers the start's; nothing if no way leads to the goal.
+    pub fn measure(&self, distances: &mut Table) -> Option<u16>
+        requires { distances.old ≡ self.now.ground.now }
+        ensures { Distance self.now distances.new result }
+    {
+        if !self.is_open() {
+            return None;
+        }
+        distances[self.start as usize] = FAR;
+        distances[self.goal as usize] = 0;
+        self.spread(distances);
+        let distance = distances[self.start as usize];
+        (distance != FAR).then_some(distance)
     }
-    let mut queue = [0; 4096];
-    spread(leg, distances, &mut queue);
-    distances[leg.start as usize]
 }

@@ -1,38 +1,40 @@
 // The walk along the distances of a leg.
-ghost use Rattle.std.specs.Prelude.{◌≡◌, ◌+◌, ◌≤◌, length};
-ghost use Rattle.ways.proofs.Expand.{distance_in};
-ghost use Rattle.way.specs.Table.{Measured, Standing, Nears, Written};
-
-use super::around::around;
 use super::leg::Leg;
+use super::sizes::{Route, Table};
+use field::Direction;
 
-// The first square around this one, by right, down, left, up, that is one nearer to the leg's goal.
-fn nearer(leg: &Leg, distances: &[u16], square: u16) -> u16
-    requires { Standing leg.now distances.now square }
-    ensures { Nears leg.now distances.now square result }
-{
-    let wanted = distances[square as usize] - 1;
-    for d in around(&leg.field, square) {
-        if distances[d as usize] == wanted {
-            return d;
+impl Leg<'_> {
+    ghost use Rattle.std.specs.Prelude.{◌+◌, ◌≤◌, length};
+    ghost use Rattle.ways.specs.Distances.{distance_in};
+    ghost use Rattle.way.specs.Table.{Measured, Standing, Nears, Written};
+
+    // The first square beside this one, by right, down, left, up, that is one nearer to the goal.
+    fn nearer(&self, distances: &Table, square: u16) -> u16
+        requires { Standing self.now distances.now square }
+        ensures { Nears self.now distances.now square result }
+    {
+        let wanted = distances[square as usize] - 1;
+        for direction in Direction::ALL {
+            if let Some(to) = self.field.next(square, direction)
+                && distances[to as usize] == wanted
+            {
+                return to;
+            }
+        }
+        unreachable!()
+    }
+
+    // Adds the squares of the leg to the route.
+    pub fn walk(&self, distances: &Table, made: &mut Route)
+        requires measured { Measured self.now distances.now }
+        requires room { length made.old.items + distance_in distances.now self.now.start ≤ 256 }
+        ensures { Written self.now distances.now made.old.items made.new.items }
+    {
+        let mut square = self.start;
+        // it counts nothing: an iterator of squares would be this loop over again
+        while square != self.goal {
+            square = self.nearer(distances, square);
+            made.push(square);
         }
     }
-    unreachable()
-}
-
-// Writes the squares of the leg from place `len` on, and answers the place after the last.
-pub fn walk(leg: &Leg, distances: &[u16], made: &mut [u16], len: usize) -> usize
-    requires long { (length distances.now ≡ 4096) × (length made.old ≡ 256) }
-    requires measured { Measured leg.now distances.now }
-    requires room { len + distance_in distances.now leg.now.start ≤ 256 }
-    ensures { Written leg.now distances.now len made.old made.new result }
-{
-    let mut square = leg.start;
-    let mut place = len;
-    while square != leg.goal {
-        square = nearer(leg, distances, square);
-        made[place] = square;
-        place += 1;
-    }
-    place
 }

@@ -4,26 +4,26 @@ use Rattle.std.proofs.lemmas.Bool.{and_parts, leb-true, ltb-true, eqb-true}
 use Rattle.std.proofs.lemmas.Bool.Decides.{nat_tests}
 use Rattle.rules.specs.Tests.{every}
 use Rattle.rules.specs.Field.{Field, free_square}
-use Rattle.rules.specs.Memory.{field_in, field_ok}
+use Rattle.rules.specs.Memory.{FieldNumbers, field_in, field_ok}
 use Rattle.rules.proofs.Tests.{every_tells}
 use Rattle.ways.specs.Asked.{start_ok, asked_ok, way_refusal}
 
-module _ (a d : ℕ) (ws bs : List ℕ) (i c : ℕ) (row : List ℕ) (n : ℕ) where
-  pub refused_field : field_ok a d ws bs ≡ false → way_refusal a d ws bs i c row n ≡ 1
+module _ (lent : FieldNumbers) (i c : ℕ) (row : List ℕ) (n : ℕ) where
+  pub refused_field : field_ok lent ≡ false → way_refusal lent i c row n ≡ 1
   unfolding way_refusal
   refused_field h = grind (arith, nat_tests)
 
-  pub refused_shuttle : field_ok a d ws bs ≡ true → length bs ≤ i → way_refusal a d ws bs i c row n ≡ 3
+  pub refused_shuttle : field_ok lent ≡ true → length lent.bays ≤ i → way_refusal lent i c row n ≡ 3
   unfolding way_refusal
   refused_shuttle h l = grind (arith, nat_tests)
 
   pub refused_asked :
-      field_ok a d ws bs ≡ true → i < length bs → asked_ok (field_in a d ws bs) i c row n ≡ false → way_refusal a d ws bs i c row n ≡ 5
+      field_ok lent ≡ true → i < length lent.bays → asked_ok (field_in lent) i c row n ≡ false → way_refusal lent i c row n ≡ 5
   unfolding way_refusal
   refused_asked h l k = grind (arith, nat_tests)
 
   pub refused_not :
-      field_ok a d ws bs ≡ true → i < length bs → asked_ok (field_in a d ws bs) i c row n ≡ true → way_refusal a d ws bs i c row n ≡ 0
+      field_ok lent ≡ true → i < length lent.bays → asked_ok (field_in lent) i c row n ≡ true → way_refusal lent i c row n ≡ 0
   unfolding way_refusal
   refused_not h l k = grind (arith, nat_tests)
 

@@ -1,31 +1,13 @@
 -- Routes that meet what is left of a row, step by step: which squares may be entered on the way to the next square of the row.
-use Rattle.std.proofs.Common.{◌≡◌, ℕ, Bool, true, false, not, ◌&&◌, ◌||◌, eqb, List, [], ◌∷◌, sym, refl, ap, ◌∙◌, subst, ⊎_elim, arith}
-use Rattle.std.proofs.lemmas.Bool.{cases_eq, cases_Bool, eq-eqb, eqb-true, and_parts, and_from, or_cases, or_left, or_right, not-true, not_from_false, both_ways}
+use Rattle.std.proofs.Common.{◌≡◌, ℕ, Bool, true, false, not, ◌&&◌, ◌||◌, eqb, List, [], ◌∷◌, sym, refl, ap, ◌∙◌, subst, ⊎_elim}
+use Rattle.std.specs.List.{list_all}
+use Rattle.std.proofs.lemmas.Bool.{cases_eq, cases_Bool, cond-true, ne_eqb, eq-eqb, eqb-true, and_parts, and_from, or_cases, or_left, or_right, not-true, not_from_false, both_ways}
 use Rattle.rules.specs.Tests.{is_empty}
 use Rattle.rules.specs.Field.{Field, is_bay, free_square, beside}
 use Rattle.rules.specs.Route.{step_ok, route_ok}
-use Rattle.ways.proofs.Greedy.{past, unmet, past_here, past_other, last}
-
--- square d may be entered on the way to square g: it is free and no bay, or it is g and all else has been met then
-unfoldable pub enter : Field → ℕ → Bool → ℕ → Bool
-enter f g final d = free_square f d && (not (is_bay f d) || (eqb d g && final))
-
--- g is met last: nothing but g itself is left with it
-unfoldable pub final : ℕ → List ℕ → Bool
-final g rest = is_empty (past g rest)
-
--- r is a route of shuttle i from square c that meets what is left of a row
-pub record Good (f : Field) (i c : ℕ) (gs r : List ℕ) : Type 0 where
-  pub route : route_ok f i c r ≡ true
-  pub met : unmet c r gs ≡ []
-
-pub cons_nil : (g : ℕ) (gs : List ℕ) → g ∷ gs ≡ [] → ⊥
-cons_nil g gs e = let z : ◌≡◌ {A = ℕ} 0 1 = cc in omega arith
-
-pub empty_nil : (gs : List ℕ) → is_empty gs ≡ true → gs ≡ []
-unfolding is_empty
-empty_nil [] e = refl
-empty_nil (g ∷ gs) e = absurd (both_ways false refl e)
+use Rattle.rules.proofs.Tests.{empty_tells}
+use Rattle.ways.specs.Good.{past, unmet, enter, final, Good}
+use Rattle.ways.proofs.Greedy.{past_here, past_other, last}
 
 unmet_here : (c : ℕ) (r gs : List ℕ) → unmet c r (c ∷ gs) ≡ unmet c r gs
 unfolding unmet
@@ -60,7 +42,7 @@ module _ (f : Field) (i : ℕ) where
   pub good_end : (g : ℕ) (gs : List ℕ) → g ≡ f.bay i → final g gs ≡ true → Good f i g (g ∷ gs) []
   unfolding route_ok final
   good_end g gs e t =
-      record { route = eq-eqb g (f.bay i) e; met = unmet_stay g (g ∷ gs) ∙ (past_here g gs ∙ empty_nil (past g gs) t) }
+      record { route = eq-eqb g (f.bay i) e; met = unmet_stay g (g ∷ gs) ∙ (past_here g gs ∙ empty_tells (past g gs) t) }
 
   pub good_none : (c : ℕ) → c ≡ f.bay i → Good f i c [] []
   unfolding route_ok unmet past
@@ -75,7 +57,7 @@ module _ (f : Field) (i : ℕ) where
 
   -- whoever is elsewhere has to go
   pub good_stay : (c g : ℕ) (gs : List ℕ) → (c ≡ g → ⊥) → Good f i c (g ∷ gs) [] → ⊥
-  good_stay c g gs ne h = cons_nil g gs (sym (past_other c g gs ne) ∙ (sym (unmet_stay c (g ∷ gs)) ∙ h.met))
+  good_stay c g gs ne h = cc (past_other c g gs ne, unmet_stay c (g ∷ gs))
 
   bay_last : (g d : ℕ) (gs ds : List ℕ) → is_empty ds ≡ true → unmet d ds (g ∷ gs) ≡ [] → (eqb d g && final g gs) ≡ true
   unfolding final is_empty
@@ -83,7 +65,7 @@ module _ (f : Field) (i : ℕ) where
       ⊎_elim
       (λ (q : d ≡ g). and_from (eqb d g) (is_empty (past g gs)) (eq-eqb d g q)
       (let n : past g gs ≡ [] = sym (past_here g gs) ∙ subst (λ (x : ℕ). past x (g ∷ gs) ≡ []) q (sym (unmet_stay d (g ∷ gs)) ∙ m) in ap is_empty n))
-      (λ ne. absurd (cons_nil g gs (sym (past_other d g gs ne) ∙ (sym (unmet_stay d (g ∷ gs)) ∙ m))))
+      (λ ne. cc (past_other d g gs ne, unmet_stay d (g ∷ gs)))
       (cases_eq d g)
   bay_last g d gs (x ∷ xs) e m = absurd (both_ways false refl e)
 
@@ -128,15 +110,16 @@ module _ (f : Field) (i : ℕ) where
         met = unmet_other c g d ds gs ne ∙ h.met;
       }
 
--- whether a square is met last, from what follows it
-pub final_same : (g : ℕ) (gs : List ℕ) (h : ℕ) → h ≡ g → final g (h ∷ gs) ≡ final g gs
-unfolding final
-final_same g gs h e = ap (λ (x : ℕ). is_empty (past g (x ∷ gs))) e ∙ ap is_empty (past_here g gs)
-
-pub final_other : (g : ℕ) (gs : List ℕ) (h : ℕ) → (h ≡ g → ⊥) → final g (h ∷ gs) ≡ false
-unfolding final is_empty
-final_other g gs h ne = ap is_empty (past_other g h gs (λ e. ne (sym e)))
-
-pub final_none : (g : ℕ) → final g [] ≡ true
+-- a square is met last exactly if each that follows is that square
+pub final_is : (g : ℕ) (gs : List ℕ) → final g gs ≡ list_all (λ x. eqb x g) gs
 unfolding final past is_empty
-final_none g = refl
+final_is g [] = refl
+final_is g (h ∷ hs) =
+    ⊎_elim
+    (λ (e : g ≡ h). let same = final_is g hs in
+    let here : past g (h ∷ hs) ≡ past g hs = cond-true (eqb g h) (past g hs) (h ∷ hs) (eq-eqb g h e) in
+    let test : eqb h g ≡ true = eq-eqb h g (sym e) in
+    ap is_empty here ∙ (same ∙ ap (λ (b : Bool). b && list_all (λ x. eqb x g) hs) (sym test)))
+    (λ ne. let test : eqb h g ≡ false = ne_eqb h g (λ q. ne (sym q)) in
+    ap is_empty (past_other g h hs ne) ∙ ap (λ (b : Bool). b && list_all (λ x. eqb x g) hs) (sym test))
+    (cases_eq g h)

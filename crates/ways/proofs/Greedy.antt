@@ -1,17 +1,8 @@
 -- Meeting squares as early as can be: what is left of a row after some squares, and that nothing is left exactly if they visit it.
-use Rattle.std.proofs.Common.{◌≡◌, ℕ, zero, suc, ◌<◌, cond, eqb, List, [], ◌∷◌, ◌++◌, length, get_or, drop, sym, refl, ◌∙◌, subst, ⊎_elim, arith}
+use Rattle.std.proofs.Common.{◌≡◌, ℕ, zero, suc, ◌<◌, eqb, List, [], ◌∷◌, ◌++◌, length, get_or, drop, sym, refl, ◌∙◌, subst, ⊎_elim, arith}
 use Rattle.std.proofs.lemmas.Bool.{cases_eq, eq-eqb, ne_eqb, cond-true, cond-false}
 use Rattle.ways.specs.Visit.{Visits}
-
--- a row without the squares at its front that are c
-unfoldable pub past : ℕ → List ℕ → List ℕ
-past c [] = []
-past c (g ∷ gs) = cond (eqb c g) (past c gs) (g ∷ gs)
-
--- what is left of a row after square c and then the squares r
-unfoldable pub unmet : ℕ → List ℕ → List ℕ → List ℕ
-unmet c [] gs = past c gs
-unmet c (d ∷ ds) gs = unmet d ds (past c gs)
+use Rattle.ways.specs.Good.{past, unmet}
 
 pub past_here : (c : ℕ) (gs : List ℕ) → past c (c ∷ gs) ≡ past c gs
 unfolding past
@@ -102,10 +93,6 @@ met_none : (r : List ℕ) (c : ℕ) (gs : List ℕ) → Met c r gs → unmet c r
 unfolding unmet
 met_none [] c gs m = past_all c gs m
 met_none (d ∷ ds) c gs m = met_none ds d (past c gs) (met_on c d ds gs (met_past c (d ∷ ds) gs m))
-
--- what is visited is met early
-pub visits_none : (c : ℕ) (r gs : List ℕ) → Visits (c ∷ r) gs → unmet c r gs ≡ []
-visits_none c r gs v = met_none r c gs (visits_met gs c r v)
 
 -- the last of square c and the squares r
 unfoldable pub last : ℕ → List ℕ → ℕ

@@ -4,15 +4,13 @@ use Rattle.std.proofs.lemmas.List.{length-append, append-nil, nil_from_length}
 use Rattle.std.proofs.lemmas.Bool.{cases_eq}
 use Rattle.rules.specs.Tests.{is_empty}
 use Rattle.rules.specs.Field.{Field}
+use Rattle.rules.proofs.Tests.{empty_tells}
 use Rattle.ways.specs.Shortest.{Through, Shortest, Nowhere}
-use Rattle.ways.proofs.Greedy.{past, past_here, past_other, met_visits, visits_end, visits_front}
-use Rattle.ways.proofs.Good.{Good, final, empty_nil, cons_nil, route_ends, good_drop, good_put, good_none}
-use Rattle.ways.proofs.Leg.{Best, Bounds, Falls, arrives, falls_length, leg_best}
-
--- a row that is not empty ends in b
-abbrev pub Ends : ℕ → List ℕ → Type 0
-Ends b [] = Unit {0}
-Ends b (g ∷ gs) = elim gs [ [] ↦ g ≡ b | h ∷ hs ↦ Ends b gs ]
+use Rattle.ways.specs.Good.{past, Good, final, Best, Ends}
+use Rattle.ways.specs.Leg.{Bounds, Falls}
+use Rattle.ways.proofs.Greedy.{past_here, past_other, met_visits, visits_end, visits_front}
+use Rattle.ways.proofs.Good.{route_ends, good_drop, good_put, good_none}
+use Rattle.ways.proofs.Leg.{arrives, falls_length, leg_best}
 
 -- w leads from c₀ to c, with gs left of gs₀: with the best from c it is the best from c₀, and no good one from c₀ is shorter than w and a good one from c
 pub record Led (f : Field) (i c₀ : ℕ) (gs₀ w : List ℕ) (c : ℕ) (gs : List ℕ) : Type 0 where
@@ -26,10 +24,10 @@ ends_home b g [] e t = e
 ends_home b g (h ∷ hs) e t =
     ⊎_elim
     (λ (q : g ≡ h).
-    let n : past g hs ≡ [] = sym (past_here g hs) ∙ (ap (λ (x : ℕ). past g (x ∷ hs)) q ∙ empty_nil (past g (h ∷ hs)) t) in
+    let n : past g hs ≡ [] = sym (past_here g hs) ∙ (ap (λ (x : ℕ). past g (x ∷ hs)) q ∙ empty_tells (past g (h ∷ hs)) t) in
     let t' : final h hs ≡ true = subst (λ (x : ℕ). final x hs ≡ true) q (subst (λ (x : List ℕ). is_empty x ≡ true) (sym n) refl) in
     q ∙ ends_home b h hs e t')
-    (λ ne. absurd (cons_nil h hs (sym (past_other g h hs ne) ∙ empty_nil (past g (h ∷ hs)) t)))
+    (λ ne. cc (past_other g h hs ne, empty_tells (past g (h ∷ hs)) t))
     (cases_eq g h)
 
 pub ends_rest : (b g : ℕ) (gs : List ℕ) → Ends b (g ∷ gs) → Ends b gs
@@ -49,18 +47,7 @@ best_drop f i c gs w b =
       first = λ r h l. b.first r (good_drop f i c gs r h) l;
     }
 
-best_put : (f : Field) (i c : ℕ) (gs w : List ℕ) → Best f i c (c ∷ gs) w → Best f i c gs w
-best_put f i c gs w b =
-    record {
-      good = good_drop f i c gs w b.good;
-      least = λ r h. b.least r (good_put f i c gs r h);
-      first = λ r h l. b.first r (good_put f i c gs r h) l;
-    }
-
 module _ (f : Field) (i c₀ : ℕ) (gs₀ : List ℕ) where
-  pub led_start : Led f i c₀ gs₀ [] c₀ gs₀
-  led_start = record { best = λ v b. b; left = λ r h. (r, h, omega arith) }
-
   -- a square of the row that one stands on is met
   pub led_met : (w : List ℕ) (c : ℕ) (gs : List ℕ) → Led f i c₀ gs₀ w c (c ∷ gs) → Led f i c₀ gs₀ w c gs
   led_met w c gs l =

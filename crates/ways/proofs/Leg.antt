@@ -1,36 +1,14 @@
 -- One leg of a way: numbers that fall by one at most with each step to the next square of the row show that the walk along which they fall,
 -- by the first step that may be made, is the first of the shortest.
-use Rattle.std.proofs.Common.{◌≡◌, ℕ, suc, ◌+◌, ◌<◌, ◌≤◌, Bool, true, ◌⊎◌, List, [], ◌∷◌, ◌++◌, length, sym, refl, ap, ◌∙◌, subst, inl, inr, ⊎_elim, arith}
+use Rattle.std.proofs.Common.{◌≡◌, ℕ, suc, ◌+◌, ◌≤◌, Bool, true, ◌⊎◌, List, [], ◌∷◌, ◌++◌, length, sym, refl, ap, ◌∙◌, subst, inl, inr, ⊎_elim, arith}
 use Rattle.std.proofs.lemmas.Bool.{cases_eq, cases_order}
 use Rattle.std.proofs.lemmas.List.{length-append, nil_from_length}
-use Rattle.rules.specs.Field.{Field, is_bay, beside}
+use Rattle.rules.specs.Field.{Field, is_bay}
 use Rattle.ways.specs.Order.{turn, before}
+use Rattle.ways.specs.Good.{Good, enter, final, Best}
+use Rattle.ways.specs.Leg.{Bounds, Falls}
 use Rattle.ways.proofs.Turn.{turn_same, before_now, before_later}
-use Rattle.ways.proofs.Good.{Good, enter, final, enter_bay, good_end, good_next, good_step, good_stay}
-
--- w is the first of the shortest good ones
-pub record Best (f : Field) (i c : ℕ) (gs w : List ℕ) : Type 0 where
-  pub good : Good f i c gs w
-  pub least : (r : List ℕ) → Good f i c gs r → length w ≤ length r
-  pub first : (r : List ℕ) → Good f i c gs r → length r ≡ length w → (r ≡ w) ⊎ (before f c w r ≡ true)
-
--- numbers for the squares of a leg from c₀ to g: 0 at g, and at most one less after each step
-pub record Bounds (f : Field) (g : ℕ) (end : Bool) (c₀ : ℕ) (P : ℕ → ℕ) : Type 0 where
-  pub at_goal : P g ≡ 0
-  pub lower : (c d : ℕ) → (c ≡ c₀) ⊎ (enter f g end c ≡ true) → beside f c d ≡ true → enter f g end d ≡ true → P c ≤ suc (P d)
-
--- d is one nearer than c, and no square that an earlier step leads to is
-pub record Nearer (f : Field) (g : ℕ) (end : Bool) (P : ℕ → ℕ) (c d : ℕ) : Type 0 where
-  pub off : c ≡ g → ⊥
-  pub next : beside f c d ≡ true
-  pub enters : enter f g end d ≡ true
-  pub one : P c ≡ suc (P d)
-  pub first : (e : ℕ) → beside f c e ≡ true → enter f g end e ≡ true → turn f c e < turn f c d → P c ≤ P e
-
--- a walk from c to g by such steps
-abbrev pub Falls : Field → ℕ → Bool → (ℕ → ℕ) → ℕ → List ℕ → Type 0
-Falls f g end P c [] = c ≡ g
-Falls f g end P c (d ∷ ds) = Nearer f g end P c d × Falls f g end P d ds
+use Rattle.ways.proofs.Good.{enter_bay, good_end, good_next, good_step, good_stay}
 
 -- the walk is as long as the numbers say
 pub falls_length :

@@ -2,7 +2,7 @@
 pub mod Greedy
 pub mod Good
 pub mod Turn
-pub mod Around
+pub mod Next
 pub mod Spread
 pub mod Distances
 pub mod Leg

@@ -1,22 +1,21 @@
 -- Marking the squares of a field in a table, one after the other: those that are free, and of these those that are nobody's bay.
-use Rattle.std.proofs.Common.{◌≡◌, ℕ, ◌+◌, ◌*◌, ◌<◌, Bool, true, false, cond, not, ◌&&◌, ◌||◌, eqb, ltb, List, length, set, sym, ap, ◌∙◌, ⊎_elim, add-one, arith}
+use Rattle.std.proofs.Common.{◌≡◌, ℕ, ◌+◌, ◌*◌, ◌<◌, Bool, true, cond, not, ◌&&◌, ◌||◌, eqb, ltb, List, length, set, sym, ap, ◌∙◌, ⊎_elim, add-one, arith}
 use Rattle.std.proofs.lemmas.List.{get_or-set_same, get_or-set_other}
 use Rattle.std.proofs.lemmas.Bool.{cases_eq, eq-eqb, ne_eqb, or_left}
 use Rattle.std.proofs.lemmas.Bool.Decides.{nat_tests}
 use Rattle.rules.specs.Tests.{any_to}
 use Rattle.rules.specs.Field.{Field, free_square, is_bay, is_bay_to}
 use Rattle.rules.proofs.Tests.{any_to_more}
-use Rattle.ways.proofs.Expand.{distance_in}
-use Rattle.ways.proofs.Ground.{Ground, is_open}
+use Rattle.ways.specs.Distances.{distance_in, Ground, is_open}
 
 -- a table with one mark for the squares that pass a test and another for those that do not
 abbrev pub Marks : (ℕ → Bool) → List ℕ → Type 0
 Marks p table = (x : ℕ) → distance_in table x ≡ cond (p x) 65535 65534
 
-pub marks_like : (p q : ℕ → Bool) (table : List ℕ) → ((x : ℕ) → q x ≡ p x) → Marks p table → Marks q table
+marks_like : (p q : ℕ → Bool) (table : List ℕ) → ((x : ℕ) → q x ≡ p x) → Marks p table → Marks q table
 marks_like p q table same m x = m x ∙ ap (λ (b : Bool). cond b 65535 65534) (sym (same x))
 
-pub marks_set :
+marks_set :
     (p q : ℕ → Bool) (table : List ℕ) (k v : ℕ) → k < length table → v ≡ cond (q k) 65535 65534 → ((x : ℕ) → (x ≡ k → ⊥) → q x ≡ p x)
     → Marks p table → Marks q (set table k v)
 marks_set p q table k v l e same m x =
@@ -35,13 +34,10 @@ free_none f table h x = h x ∙ grind (arith, nat_tests)
 free_off : (f : Field) (k x : ℕ) → (x ≡ k → ⊥) → free_below f (k + 1) x ≡ free_below f k x
 free_off f k x ne = grind (arith, nat_tests)
 
-pub free_yes : (f : Field) (table : List ℕ) (k : ℕ) → k < length table → free_square f k ≡ true → Marks (free_below f k) table → Marks (free_below f (k + 1)) (set table k 65535)
-free_yes f table k l h m = marks_set (free_below f k) (free_below f (k + 1)) table k 65535 l (grind (arith, nat_tests)) (free_off f k) m
-
-pub free_not : (f : Field) (table : List ℕ) (k : ℕ) → free_square f k ≡ false → Marks (free_below f k) table → Marks (free_below f (k + 1)) table
-free_not f table k h m =
-    marks_like (free_below f k) (free_below f (k + 1)) table
-    (λ x. ⊎_elim (λ (e : x ≡ k). let z : free_square f x ≡ false = ap (free_square f) e ∙ h in grind (arith, nat_tests)) (λ ne. free_off f k x ne) (cases_eq x k)) m
+pub free_more :
+    (f : Field) (table : List ℕ) (k v : ℕ) → k < length table → v ≡ cond (free_square f k) 65535 65534 → Marks (free_below f k) table
+    → Marks (free_below f (k + 1)) (set table k v)
+free_more f table k v l e m = marks_set (free_below f k) (free_below f (k + 1)) table k v l (grind (arith, nat_tests)) (free_off f k) m
 
 -- the free squares that are none of the first j bays
 abbrev pub open_to : Field → ℕ → ℕ → Bool

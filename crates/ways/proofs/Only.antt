@@ -4,7 +4,6 @@ use Rattle.std.proofs.lemmas.Bool.{and_parts, or_cases, ltb-true, eqb-true, both
 use Rattle.rules.specs.Field.{Field}
 use Rattle.ways.specs.Order.{turn, before}
 use Rattle.ways.specs.Law.{OneWay, OnlyOne}
-use Rattle.ways.proofs.Good.{cons_nil}
 
 -- where the first comes before: an earlier step, or the same step and then the rest
 before_cases :
@@ -38,8 +37,8 @@ one_way f c r s h = ⊎_elim (λ k. absurd (not_both f r c s h k)) (λ n. n) (ca
 
 same_or_not : (r s : List ℕ) → (s ≡ r) ⊎ (s ≡ r → ⊥)
 same_or_not [] [] = inl refl
-same_or_not [] (e ∷ es) = inr (λ z. cons_nil e es z)
-same_or_not (d ∷ ds) [] = inr (λ z. cons_nil d ds (sym z))
+same_or_not [] (e ∷ es) = inr (λ z. cc)
+same_or_not (d ∷ ds) [] = inr (λ z. cc)
 same_or_not (d ∷ ds) (e ∷ es) =
     let rest = same_or_not ds es in
     ⊎_elim

@@ -1,27 +1,19 @@
 -- A table before distances spread, in which only the goal is known, and after.
-use Rattle.std.proofs.Common.{◌≡◌, ℕ, ◌+◌, ◌<◌, ◌≤◌, Bool, true, false, cond, eqb, ◌⊎◌, List, length, get_or, set, refl, ap, ◌∙◌, subst, inl, inr, ⊎_elim, arith}
+use Rattle.std.proofs.Common.{◌≡◌, ℕ, ◌+◌, ◌<◌, ◌≤◌, Bool, true, false, cond, eqb, ◌⊎◌, List, [], ◌∷◌, length, get_or, set, refl, ap, ◌∙◌, subst, inl, inr, ⊎_elim, arith}
 use Rattle.std.proofs.lemmas.List.{length-set, get_or_default}
 use Rattle.std.proofs.lemmas.List.Sums.{sum_by-set, count_by-le-length}
 use Rattle.std.proofs.lemmas.Bool.{cases_eq, eq-eqb, ne_eqb, cond-true, cond-false}
 use Rattle.rules.specs.Field.{Field}
-use Rattle.ways.proofs.Good.{enter}
-use Rattle.ways.proofs.Leg.{Bounds}
-use Rattle.ways.proofs.Distances.{Seen, Hop, hop_seen, Distances}
+use Rattle.ways.specs.Good.{enter}
+use Rattle.ways.specs.Leg.{Bounds}
+use Rattle.ways.specs.Distances.{Seen, Hop, Distances, distance_in, unknown, Spreading, Prepared}
+use Rattle.ways.proofs.Distances.{hop_seen}
 use Rattle.ways.proofs.Spread.{spread_start, spread_end}
-use Rattle.ways.proofs.Expand.{distance_in, unknown, Spreading}
-
--- the goal has distance 0, every other square of the leg is not known yet, and none comes to the others
-pub record Prepared (f : Field) (g : ℕ) (end : Bool) (s : ℕ) (table : List ℕ) : Type 0 where
-  pub enters : enter f g end g ≡ true
-  pub goal : distance_in table g ≡ 0
-  pub marks :
-      (x : ℕ) → (x ≡ g → ⊥)
-      → (Seen f g end s x × (distance_in table x ≡ 65535)) ⊎ ((Seen f g end s x → ⊥) × (distance_in table x ≡ 65534))
 
 module _ (f : Field) (g : ℕ) (end : Bool) (s : ℕ) (table : List ℕ) (P : Prepared f g end s table) where
-  pub prepared_spread : (queue : List ℕ) → get_or queue 0 0 ≡ g → Spreading f g end s table queue 0 1
-  prepared_spread queue q =
-      spread_start (Hop f g end s) (Seen f g end s) (hop_seen f g end s) g (distance_in table) (λ j. get_or queue j 0) P.goal q (inr P.enters)
+  pub prepared_spread : Spreading f g end s table (g ∷ []) 0
+  prepared_spread =
+      spread_start (Hop f g end s) (Seen f g end s) (hop_seen f g end s) g (distance_in table) (λ j. get_or (g ∷ []) j 0) P.goal refl (inr P.enters)
       (λ x ne. ⊎_elim (λ m. omega (arith, m.1)) (λ m. omega (arith, m.1)) (P.marks x ne))
       (λ x v. ⊎_elim (λ e. inl e) (λ ne. ⊎_elim (λ m. inr m.1) (λ m. absurd (m.0 v)) (P.marks x ne)) (cases_eq x g))
       (λ x z. ⊎_elim
@@ -40,9 +32,10 @@ module _ (f : Field) (g : ℕ) (end : Bool) (s : ℕ) (table : List ℕ) (P : Pr
 
 -- once none is left in the queue, or the start is known, the table has the distances
 pub spread_distances :
-    (f : Field) (g : ℕ) (end : Bool) (s : ℕ) (table queue : List ℕ) (head tail : ℕ) → Spreading f g end s table queue head tail
-    → (tail ≤ head) ⊎ (distance_in table s ≡ 65535 → ⊥) → Distances f g end s (distance_in table)
-spread_distances f g end s table queue head tail S over =
+    (f : Field) (g : ℕ) (end : Bool) (s : ℕ) (table queue : List ℕ) (head : ℕ) → Spreading f g end s table queue head
+    → (length queue ≤ head) ⊎ (distance_in table s ≡ 65535 → ⊥) → Distances f g end s (distance_in table)
+spread_distances f g end s table queue head S over =
+    let tail = length queue in
     record {
       goal = S.goal;
       lower = ⊎_elim

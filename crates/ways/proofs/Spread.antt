@@ -1,31 +1,14 @@
 -- Distances that spread from a goal, square by square in the order of a queue: what holds while they do, and at the end.
--- A table's number below 65534 is a distance that is known; 65535 stands for a square that none has come to yet, 65534 for one that none comes to.
 use Rattle.std.proofs.Common.{◌≡◌, ℕ, suc, ◌<◌, ◌≤◌, ◌⊎◌, sym, ap, ◌∙◌, subst, inl, inr, ⊎_elim, arith}
 use Rattle.std.proofs.lemmas.Bool.{cases_eq}
+use Rattle.ways.specs.Distances.{Done, Spread}
 
 -- from c one may go to d by `Hop c d`, and `Seen c` holds of each square that one may go from
 module _ (Hop : ℕ → ℕ → Type 0) (Seen : ℕ → Type 0) (hop_seen : (c d : ℕ) → Hop c d → Seen c) (g : ℕ) where
-  -- each square from which one may go to x is at most one farther than x
-  abbrev pub Done : (ℕ → ℕ) → ℕ → Type 0
-  Done T x = (c : ℕ) → Hop c x → T c ≤ suc (T x)
-
-  -- T has the distances and Q the queue, of which the first h squares are done and the first t are filled
-  pub record Spread (T Q : ℕ → ℕ) (h t : ℕ) : Type 0 where
-    pub order : h ≤ t
-    pub small : (j : ℕ) → j < t → T (Q j) ≤ j
-    pub sorted : (j k : ℕ) → h ≤ j → j ≤ k → k < t → T (Q j) ≤ T (Q k)
-    pub near : h < t → (x : ℕ) → T x < 65534 → T x ≤ suc (T (Q h))
-    pub queued : (x : ℕ) → T x < 65534 → Done T x ⊎ ((j : ℕ) × (h ≤ j) × (j < t) × (Q j ≡ x))
-    pub falls : (x : ℕ) → T x < 65534 → (x ≡ g) ⊎ ((y : ℕ) × Hop x y × (T x ≡ suc (T y)))
-    pub seen : (x : ℕ) → T x < 65534 → Seen x
-    pub unseen : (x : ℕ) → T x ≡ 65535 → Seen x
-    pub marked : (x : ℕ) → Seen x → (T x < 65534) ⊎ (T x ≡ 65535)
-    pub goal : T g ≡ 0
-
   -- at first only the goal is known
   pub spread_start :
       (T Q : ℕ → ℕ) → T g ≡ 0 → Q 0 ≡ g → Seen g → ((x : ℕ) → (x ≡ g → ⊥) → 65534 ≤ T x) → ((x : ℕ) → Seen x → (x ≡ g) ⊎ (T x ≡ 65535))
-      → ((x : ℕ) → T x ≡ 65535 → Seen x) → Spread T Q 0 1
+      → ((x : ℕ) → T x ≡ 65535 → Seen x) → Spread Hop Seen g T Q 0 1
   spread_start T Q e q s far m u =
       let only : (x : ℕ) → T x < 65534 → x ≡ g = λ x l. ⊎_elim (λ y. y) (λ ne. absurd (omega (arith, far x ne))) (cases_eq x g) in
       let zero_at : (x : ℕ) → T x < 65534 → T x ≡ 0 = λ x l. ap T (only x l) ∙ e in
@@ -45,9 +28,9 @@ module _ (Hop : ℕ → ℕ → Type 0) (Seen : ℕ → Type 0) (hop_seen : (c d
 
   -- the first of the queue is done once none that may go to it is unknown
   pub spread_done :
-      (T Q : ℕ → ℕ) (h t : ℕ) → Spread T Q h t → h < t → ((c : ℕ) → Hop c (Q h) → T c ≡ 65535 → ⊥) → Spread T Q (suc h) t
+      (T Q : ℕ → ℕ) (h t : ℕ) → Spread Hop Seen g T Q h t → h < t → ((c : ℕ) → Hop c (Q h) → T c ≡ 65535 → ⊥) → Spread Hop Seen g T Q (suc h) t
   spread_done T Q h t S l all =
-      let done : Done T (Q h) =
+      let done : Done Hop T (Q h) =
       λ c p. ⊎_elim (λ k. S.near l c k) (λ far. absurd (all c p far)) (S.marked c (hop_seen c (Q h) p)) in
       record {
         order = l;
@@ -57,7 +40,7 @@ module _ (Hop : ℕ → ℕ → Type 0) (Seen : ℕ → Type 0) (hop_seen : (c d
         queued = λ x k. ⊎_elim
             (λ d. inl d)
             (λ q. ⊎_elim
-            (λ (e : h ≡ q.0). inl (subst (Done T) (ap Q e ∙ q.3) done))
+            (λ (e : h ≡ q.0). inl (subst (Done Hop T) (ap Q e ∙ q.3) done))
             (λ ne. inr (q.0, omega (arith, q.1), q.2, q.3))
             (cases_eq h q.0))
             (S.queued x k);
@@ -70,7 +53,7 @@ module _ (Hop : ℕ → ℕ → Type 0) (Seen : ℕ → Type 0) (hop_seen : (c d
 
   -- a square that is not known yet gets its distance, and is put at the end of the queue
   module _
-      (T Q T' Q' : ℕ → ℕ) (h t y : ℕ) (S : Spread T Q h t) (l : h < t) (room : t < 65000) (far : T y ≡ 65535) (hop : Hop y (Q h))
+      (T Q T' Q' : ℕ → ℕ) (h t y : ℕ) (S : Spread Hop Seen g T Q h t) (l : h < t) (room : t < 65000) (far : T y ≡ 65535) (hop : Hop y (Q h))
       (put : T' y ≡ suc (T (Q h))) (kept : (x : ℕ) → (x ≡ y → ⊥) → T' x ≡ T x) (at_end : Q' t ≡ y) (stay : (j : ℕ) → (j ≡ t → ⊥) → Q' j ≡ Q j) where
     other : (x : ℕ) → T x < 65534 → T' x ≡ T x
     other x k = kept x (λ e. let z : T x ≡ 65535 = ap T e ∙ far in omega arith)
@@ -81,7 +64,7 @@ module _ (Hop : ℕ → ℕ → Type 0) (Seen : ℕ → Type 0) (hop_seen : (c d
     known : (x : ℕ) → T' x < 65534 → (x ≡ y) ⊎ ((x ≡ y → ⊥) × (T x < 65534))
     known x k = ⊎_elim (λ e. inl e) (λ ne. inr (ne, let z = kept x ne in omega arith)) (cases_eq x y)
 
-    done_kept : (x : ℕ) → T x < 65534 → Done T x → Done T' x
+    done_kept : (x : ℕ) → T x < 65534 → Done Hop T x → Done Hop T' x
     done_kept x k d c p =
         let b : T c ≤ suc (T x) = d c p in
         ⊎_elim
@@ -92,7 +75,7 @@ module _ (Hop : ℕ → ℕ → Type 0) (Seen : ℕ → Type 0) (hop_seen : (c d
     new : (j : ℕ) → j ≡ t → T' (Q' j) ≡ suc (T (Q h))
     new j e = ap (λ (x : ℕ). T' (Q' x)) e ∙ (ap T' at_end ∙ put)
 
-    pub spread_more : Spread T' Q' h (suc t)
+    pub spread_more : Spread Hop Seen g T' Q' h (suc t)
     spread_more =
         let first : T' (Q' h) ≡ T (Q h) = old h l in
         let low : T (Q h) ≤ h = S.small h l in
@@ -139,7 +122,7 @@ module _ (Hop : ℕ → ℕ → Type 0) (Seen : ℕ → Type 0) (hop_seen : (c d
 
   -- at the end, or once the distance of the start is known, no step to a square that is nearer than one before the start leads down by more than one
   pub spread_end :
-      (T Q : ℕ → ℕ) (h t s : ℕ) → Spread T Q h t → T s ≤ 65535 → (h ≡ t) ⊎ (T s < 65534)
+      (T Q : ℕ → ℕ) (h t s : ℕ) → Spread Hop Seen g T Q h t → T s ≤ 65535 → (h ≡ t) ⊎ (T s < 65534)
       → (c d : ℕ) → Hop c d → suc (T d) < T s → T c ≤ suc (T d)
   spread_end T Q h t s S most over c d p l =
       ⊎_elim

@@ -2,7 +2,7 @@
 use Rattle.std.specs.Prelude.{ℕ, ◌*◌, Bool, cond, not, ◌&&◌, ◌||◌, List, length, ◌==◌, nat_le, nat_lt}
 use Rattle.rules.specs.Tests.{every}
 use Rattle.rules.specs.Field.{Field, free_square, is_bay}
-use Rattle.rules.specs.Memory.{field_in, field_ok}
+use Rattle.rules.specs.Memory.{FieldNumbers, field_in, field_ok}
 
 -- shuttle i may start from square c: it is free and nobody else's bay
 unfoldable pub start_ok : Field → ℕ → ℕ → Bool
@@ -14,6 +14,6 @@ asked_ok f i c row places =
     nat_le (length row) 8 && (every (λ g. nat_lt g (f.across * f.down)) row && (start_ok f i c && places == 256))
 
 -- the number by which a question is turned away, the first that applies: 1 the field, 3 a shuttle that isn't there, 5 the rest; 0 if it is not
-unfoldable pub way_refusal : (across down : ℕ) → (walls bays : List ℕ) → (shuttle from : ℕ) → (row : List ℕ) → (places : ℕ) → ℕ
-way_refusal a d ws bs i c row places =
-    cond (field_ok a d ws bs) (cond (nat_lt i (length bs)) (cond (asked_ok (field_in a d ws bs) i c row places) 0 5) 3) 1
+unfoldable pub way_refusal : FieldNumbers → (shuttle from : ℕ) → (row : List ℕ) → (places : ℕ) → ℕ
+way_refusal lent i c row places =
+    cond (field_ok lent) (cond (nat_lt i (length lent.bays)) (cond (asked_ok (field_in lent) i c row places) 0 5) 3) 1

@@ -15,7 +15,7 @@ pub record Through (f : Field) (i c : ℕ) (row r : List ℕ) : Type 0 where
 pub record Shortest (f : Field) (i c : ℕ) (row r : List ℕ) : Type 0 where
   pub through : Through f i c row r
   pub least : (s : List ℕ) → Through f i c row s → length r ≤ length s
-  pub first : (s : List ℕ) → Through f i c row s → length s ≡ length r → (s ≢ r) → before f c r s ≡ true
+  pub first : (s : List ℕ) → Through f i c row s → length s ≡ length r → s ≢ r → before f c r s ≡ true
 
 -- there is none
 abbrev pub Nowhere : Field → ℕ → ℕ → List ℕ → Type 0

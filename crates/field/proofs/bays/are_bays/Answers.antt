@@ -1,14 +1,16 @@
--- The loop stops at the first bay that is none.
-use Rattle.std.proofs.Common.{sym, ◌∙◌}
-use Rattle.rules.proofs.Tests.{every_to_none, every_to_next, every_to_broken}
+-- Each bay is looked at.
+use Rattle.std.proofs.Common.{refl, ◌∙◌, arith}
+use Rattle.std.proofs.lemmas.Iterator.{YieldsList-from_range}
+use Rattle.std.proofs.lemmas.Iterator.Search.{all_from_yields_List}
+use borrow.Author.Tests.{tests}
+use Rattle.std.proofs.Common.{rules, length}
+use Rattle.rules.specs.Field.{bay_ok}
+use Rattle.rules.specs.Memory.{field_numbers, field_in}
+use Rattle.rules.proofs.Words.{every_to_range}
 use Rattle.field.proofs.bays.are_bays.Goals as goal
 
-pub loop-i-init : goal.loop-i-init
-loop-i-init c = every_to_none _
-
-pub returns-then-not-is_own_bay : goal.returns-then-not-is_own_bay
-returns-then-not-is_own_bay c =
-    sym (every_to_broken _ _ c.loop-i.i c.loop-i-test.true (sym c.is_own_bay.ensures ∙ c.if-not-is_own_bay.true))
-
-pub loop-i-preserved : goal.loop-i-preserved
-loop-i-preserved c = every_to_next _ c.loop-i.i (sym c.is_own_bay.ensures ∙ c.if-not-is_own_bay.false) c.loop-i.invariant
+pub returns : goal.returns
+returns c = λ across down long.
+    let ok = bay_ok (field_in (field_numbers across down c.args.walls.now c.args.bays.now)) in
+    all_from_yields_List ok _ _ _ c.all.ensures.ran (YieldsList-from_range 0 (length c.args.bays.now) (length c.args.bays.now) refl (omega arith)) (λ x b q k. search (rules, tests))
+    ∙ every_to_range ok (length c.args.bays.now)

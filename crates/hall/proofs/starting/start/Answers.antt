@@ -1,51 +1,63 @@
 -- One shuttle more is written at home; at the end all are.
-use Rattle.std.proofs.Common.{◌≡◌, ◌*◌, length, sym, refl, ap, ◌∙◌, add-one, arith}
+use Rattle.std.proofs.Common.{◌≡◌, ◌+◌, ◌*◌, ◌≤◌, length, get_or, sym, refl, ap, ◌∙◌, add-one, arith, lit≤}
+use Rattle.std.proofs.lemmas.Result.{err_from_is_err_and}
 use Rattle.rules.specs.Shuttle.{at_home}
-use Rattle.rules.specs.Memory.{field_in, stored, started}
-use Rattle.rules.proofs.Fields.{accepted}
-use Rattle.safety.proofs.Writing.{headed_long}
-use Rattle.hall.specs.Answer.{number, refusal_of}
-use Rattle.hall.proofs.Started.{home_is, no_field, no_memory, both, start_refused, start_done, start_reached}
+use Rattle.rules.specs.Memory.{field_numbers, field_in, stored, started}
+use Rattle.rules.proofs.Stored.{stored_length}
+use Rattle.field.proofs.Facts.{facts}
+use Rattle.hall.proofs.Started.{no_field, no_memory, both, start_refused, start_done}
 use Rattle.hall.proofs.starting.start.Goals as goal
 
-pub returns-then-not-is_field : goal.returns-then-not-is_field
-unfolding number refusal_of
-returns-then-not-is_field c =
+pub returns-in_err-field : goal.returns-in_err-field
+returns-in_err-field c =
     let a = c.args in
-    let why = no_field a.across a.down a.walls.now a.bays.now a.memory.now (sym c.is_field.ensures ∙ c.if-not-is_field.true) in
-    record { says = start_refused _ _ _ _ _ 0 why; refuses = sym why; begins = λ z. absurd (omega arith) }
+    let lent = field_numbers a.across a.down a.walls.now a.bays.now in
+    let p = err_from_is_err_and c.from_residual.result c.from_residual.ensures.1 in
+    let why = no_field lent a.memory.now c.in_err-field.ensures.1 in
+    rw (p.1, p.2, c.in_err-field.ensures.0) (record { answered = start_refused lent a.memory.now 0 why; refuses = sym why })
 
-pub overflow_mul-bays : goal.overflow_mul-bays
-overflow_mul-bays c = let few = (accepted _ _ _ _ (sym c.is_field.ensures ∙ c.if-not-is_field.false)).few in omega arith
+pub overflow_mul-field : goal.overflow_mul-field
+overflow_mul-field c = let few = (facts c.in_ok-field.field).few in omega arith
 
-pub returns-then-memory-bays : goal.returns-then-memory-bays
-unfolding number refusal_of
-returns-then-memory-bays c =
+pub returns-then-memory-field : goal.returns-then-memory-field
+returns-then-memory-field c =
     let a = c.args in
-    let why = no_memory a.across a.down a.walls.now a.bays.now a.memory.now (sym c.is_field.ensures ∙ c.if-not-is_field.false) c.if-memory-bays.true in
-    record { says = start_refused _ _ _ _ _ 1 why; refuses = sym why; begins = λ z. absurd (omega arith) }
+    let lent = field_numbers a.across a.down a.walls.now a.bays.now in
+    let is = c.in_ok-field.ensures in
+    let count = ap (λ t. length t.bays) is in
+    let why = no_memory lent a.memory.now (rw is at c.in_ok-field.field.accepted) (λ e. c.if-memory-field.true (omega arith)) in
+    record { answered = start_refused lent a.memory.now 1 why; refuses = sym why }
 
 pub loop-i-init : goal.loop-i-init
 unfolding started
-loop-i-init c = (refl, c.if-memory-bays.false)
+loop-i-init c = let count = ap (λ t. length t.bays) c.in_ok-field.ensures in (refl, omega arith)
+
+pub write_home-requires : goal.write_home-requires
+write_home-requires c =
+    let count = ap (λ t. length t.bays) c.in_ok-field.ensures in
+    let long = c.loop-i.invariant.1 in omega arith
 
 pub loop-i-preserved : goal.loop-i-preserved
-unfolding started field_in
+unfolding started field_in at_home
 loop-i-preserved c =
-    let f = field_in c.args.across c.args.down c.args.walls.now c.args.bays.now in
+    let a = c.args in
+    let f = field_in (field_numbers a.across a.down a.walls.now a.bays.now) in
     let i = c.loop-i.i in
+    let count = ap (λ t. length t.bays) c.in_ok-field.ensures in
     let long = c.loop-i.invariant.1 in
-    let home = c.write_numbers.ensures ∙ home_is f c.loop-i.memory i (omega arith) in (
-      home ∙ ap (λ t. stored t i (at_home f i)) c.loop-i.invariant.0 ∙ ap (λ k. started f k c.args.memory.now) (sym (add-one i)),
-      ap length c.write_numbers.ensures ∙ headed_long c.loop-i.memory (260 * i) _ _ _ 0 ∙ long,
+    let there : 260 * i + 260 ≤ length c.loop-i.memory = omega arith in
+    let home = c.write_home.ensures f (ap (λ t. get_or t.bays i 0) (sym c.in_ok-field.ensures)) in (
+      home ∙ ap (λ t. stored t i (at_home f i)) c.loop-i.invariant.0 ∙ ap (λ k. started f k a.memory.now) (sym (add-one i)),
+      ap length home ∙ stored_length c.loop-i.memory i (at_home f i) there (lit≤ tt) ∙ long,
     )
 
 pub returns : goal.returns
-unfolding number refusal_of
 returns c =
-    let ok = sym c.is_field.ensures ∙ c.if-not-is_field.false in
-    let all : c.loop-i.i ≡ length c.args.bays.now = omega arith in
-    let is = c.loop-i.invariant.0 ∙ ap (λ k. started (field_in c.args.across c.args.down c.args.walls.now c.args.bays.now) k c.args.memory.now) all in
     let a = c.args in
-    let none = both a.across a.down a.walls.now a.bays.now a.memory.now ok c.if-memory-bays.false in
-    record { says = start_done _ _ _ _ _ ok c.if-memory-bays.false _ is; refuses = sym none; begins = λ _. start_reached _ _ _ _ _ ok c.if-memory-bays.false _ is }
+    let lent = field_numbers a.across a.down a.walls.now a.bays.now in
+    let count = ap (λ t. length t.bays) c.in_ok-field.ensures in
+    let ok = rw c.in_ok-field.ensures at c.in_ok-field.field.accepted in
+    let long : length a.memory.now ≡ 260 * length a.bays.now = omega arith in
+    let all : c.loop-i.i ≡ length a.bays.now = omega arith in
+    let is = c.loop-i.invariant.0 ∙ ap (λ k. started (field_in lent) k a.memory.now) all in
+    record { answered = start_done lent a.memory.now ok long c.loop-i.memory is; refuses = sym (both lent a.memory.now ok long) }

@@ -1,7 +1,7 @@
 -- The sets so far are those of the shuttles so far.
 use Rattle.std.proofs.Common.{◌≡◌, ℕ, ◌<◌, length, get_or}
 use Rattle.safety.specs.Masks.{has, met}
-use Rattle.safety.specs.Shuttles.{fleet_of}
+use Rattle.safety.specs.Fleets.{fleet_of}
 use Rattle.safety.proofs.blocking.blockers.Given as goal
 
 abbrev pub invariant-loop-i : goal.invariant-loop-i

@@ -12,8 +12,7 @@ loop-c-init c = λ j. let z = has_nothing j in grind (arith, nat_tests)
 
 pub bounds-table-c : goal.bounds-table-c
 bounds-table-c c =
-    let e = ltb-true _ _ (every_tells (λ c. ltb c 4096) c.args.route.now c.requires.squares c.loop-c.c-index 0 (omega arith)) in
-    let long = c.requires.long in omega arith
+    let e = ltb-true _ _ (every_tells (λ c. ltb c 4096) c.args.route.now c.requires c.loop-c.c-index 0 (omega arith)) in omega arith
 
 pub loop-c-preserved : goal.loop-c-preserved
 loop-c-preserved c = λ j. met_more c.args.table.now c.args.route.now c.loop-c.c-index c.loop-c.all j _ (omega arith) (c.loop-c.invariant j)

@@ -1,6 +1,6 @@
 -- The table says which of the shuttles so far are on each square.
 use Rattle.std.proofs.Common.{◌≡◌, length, get_or}
-use Rattle.safety.specs.Shuttles.{nobody}
+use Rattle.memory.specs.Shuttles.{nobody}
 use Rattle.safety.proofs.Standing.{Stands}
 use Rattle.safety.proofs.blocking.stand.Given as goal
 

@@ -1,15 +1,14 @@
--- One row more has no gap, or has one.
-use Rattle.std.proofs.Common.{sym, ◌∙◌, arith}
-use Rattle.text.proofs.Reading.{gap_more, gap_here, gap_over}
+-- The first row with a gap.
+use Rattle.std.proofs.Common.{rules, tests, not, ◌∙◌}
+use Rattle.std.proofs.lemmas.Iterator.{YieldsList-from_slice}
+use Rattle.std.proofs.lemmas.Iterator.Search.{position_from_yields_List}
+use Rattle.rules.specs.Tests.{every}
+use Rattle.text.specs.Fields.{is_led}
+use Rattle.text.proofs.Reading.{gap_is}
 use Rattle.text.proofs.fields.first_gap.Goals as goal
 
-pub returns-then-not-letters_lead : goal.returns-then-not-letters_lead
-returns-then-not-letters_lead c =
-    sym (gap_here c.args.all.now c.args.rows.now c.loop-i.i _ (omega arith) c.if-not-letters_lead.ensures) ∙ c.loop-i.invariant
-
-pub loop-i-preserved : goal.loop-i-preserved
-loop-i-preserved c =
-    sym (gap_more c.args.all.now c.args.rows.now c.loop-i.i _ (omega arith) c.if-not-letters_lead.ensures) ∙ c.loop-i.invariant
-
 pub returns : goal.returns
-returns c = sym (gap_over c.loop-i.i c.args.all.now c.args.rows.now c.loop-i.i (omega arith)) ∙ c.loop-i.invariant
+returns c =
+    position_from_yields_List (λ r. not (every (is_led c.args.all.now) r.now)) _ _ _ c.position.ensures.ran
+    (YieldsList-from_slice c.args.rows.now cc) (λ x b q k. search (rules, tests))
+    ∙ gap_is c.args.all.now c.args.rows.now

@@ -1,16 +1,13 @@
--- One row more is passed, or the first empty line is found.
-use Rattle.std.proofs.Common.{arith}
-use Rattle.text.proofs.Reading.{row_more, row_none, row_over}
+-- The first empty line, or all lines.
+use Rattle.std.proofs.Common.{rules, tests, eqb, length, unwrap_or, ap, ◌∙◌}
+use Rattle.std.proofs.lemmas.Iterator.{YieldsList-from_slice}
+use Rattle.std.proofs.lemmas.Iterator.Search.{position_from_yields_List}
+use Rattle.text.proofs.Reading.{row_count_is}
 use Rattle.text.proofs.fields.rows_in.Goals as goal
 
-pub returns-then-is_empty : goal.returns-then-is_empty
-returns-then-is_empty c =
-    let none = row_none c.args.lines.now c.loop-i.i _ (omega arith) c.if-is_empty.ensures in record { value = omega (arith, none, c.loop-i.invariant); bound = omega arith }
-
-pub loop-i-preserved : goal.loop-i-preserved
-loop-i-preserved c =
-    let more = row_more c.args.lines.now c.loop-i.i _ (omega arith) c.if-is_empty.ensures in omega (arith, more, c.loop-i.invariant)
-
-pub returns : goal.returns
-returns c =
-    record { value = omega (arith, row_over c.args.lines.now c.loop-i.i (omega arith), c.loop-i.invariant); bound = omega arith }
+pub returns-clause-value : goal.returns-clause-value
+returns-clause-value c =
+    let first =
+    position_from_yields_List (λ l. eqb (length l.now) 0) _ _ _ c.position.ensures.ran
+    (YieldsList-from_slice c.args.lines.now cc) (λ x b q k. search (rules, tests)) in
+    c.unwrap_or.ensures ∙ ap (λ o. unwrap_or o (length c.args.lines.now)) first ∙ row_count_is c.args.lines.now

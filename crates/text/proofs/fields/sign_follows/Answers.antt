@@ -2,19 +2,17 @@
 use Rattle.std.proofs.Common.{arith}
 use Rattle.std.proofs.lemmas.Bool.Decides.{nat_tests}
 use Rattle.text.specs.Fields.{sign_fits}
-use Rattle.text.proofs.Reading.{among_both}
+use Rattle.text.proofs.Reading.{among_is, among_both}
 use Rattle.text.proofs.fields.sign_follows.Goals as goal
 
-pub returns-then-not-has : goal.returns-then-not-has
+pub returns-after-is_bay_letter : goal.returns-after-is_bay_letter
 unfolding sign_fits
-returns-then-not-has c =
-    let both = among_both c.args.sign c.args.before.now c.args.row.now in grind (arith, nat_tests, both)
+returns-after-is_bay_letter c =
+    let both = among_both c.args.sign c.args.before.now c.args.row.now in
+    let before = among_is c.args.sign c.args.before.now in
+    let row = among_is c.args.sign c.args.row.now in
+    grind (arith, nat_tests)
 
-pub returns-else-not-has : goal.returns-else-not-has
+pub returns-else-is_field_sign : goal.returns-else-is_field_sign
 unfolding sign_fits
-returns-else-not-has c =
-    let both = among_both c.args.sign c.args.before.now c.args.row.now in grind (arith, nat_tests, both)
-
-pub returns-else-is_bay_letter : goal.returns-else-is_bay_letter
-unfolding sign_fits
-returns-else-is_bay_letter c = grind (arith, nat_tests)
+returns-else-is_field_sign c = grind (arith, nat_tests)

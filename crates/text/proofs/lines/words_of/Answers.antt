@@ -1,20 +1,16 @@
--- One word more is found, or a blank is passed.
-use Rattle.std.proofs.Common.{vec_items, append-nil, arith, true-eqb, false-eqb}
-use Rattle.text.specs.Lines.{words, pieces}
-use Rattle.text.proofs.Cutting.{piece_more, no_words}
+-- The library gives the words.
+use Rattle.std.proofs.Common.{rules, tests, ◌≡◌, IfOk, subst}
+use Rattle.std.proofs.lemmas.Iterator.Consumers.{map_from_collect, YieldsList-from_filter, YieldsList-at}
+use Rattle.std.proofs.lemmas.Iterator.Splits.{YieldsList-from_slice_split}
+use Rattle.text.proofs.Cutting.{some, is_blank, words_are}
+use Rattle.text.specs.Lines.{pieces}
 use Rattle.text.proofs.lines.words_of.Goals as goal
-
-pub loop-rest-preserved-in_ok-push : goal.loop-rest-preserved-in_ok-push
-loop-rest-preserved-in_ok-push c =
-    let more = piece_more (vec_items c.loop-rest.found) c.first_word.result.0 (words c.first_word.result.1.now) in
-    let items = c.in_ok-push.ensures.items in
-    let cut = c.first_word.ensures.cut (omega (arith, false-eqb _ 0 c.if-not-is_empty.ensures)) in
-    let before = c.loop-rest.invariant in
-    cc
 
 pub returns : goal.returns
 returns c =
-    let none = no_words c.loop-rest.rest.now (true-eqb _ 0 c.loop-rest-test.ensures) in
-    let before = c.loop-rest.invariant in
-    let all = append-nil (pieces (vec_items c.loop-rest.found)) in
-    cc
+    subst (λ ws. IfOk c.collect.result (λ v. pieces v.items ≡ ws)) (words_are c.args.line.now)
+    (map_from_collect _ c.collect.ensures.ran
+    (YieldsList-from_filter _ some
+    (YieldsList-at c.filter.ensures.source
+    (YieldsList-from_slice_split _ is_blank c.args.line.now c.split.ensures.rest c.split.ensures.done c.split.ensures.closure (λ x b q k. search (rules, tests))))
+    c.filter.ensures.closure (λ x b q k. search (rules, tests))))

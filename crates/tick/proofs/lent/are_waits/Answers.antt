@@ -1,20 +1,15 @@
--- The longest wait so far, one place further, and at the end.
-use Rattle.std.proofs.Common.{ltb, refl, ◌∙◌, arith}
-use Rattle.rules.specs.Tests.{every}
-use Rattle.rules.proofs.Tests.{max_more, ltb_max, every_take_all}
+-- The longest wait can count on exactly if each can.
+use Rattle.std.proofs.Common.{refl, ltb, ap, ◌∙◌}
+use Rattle.std.proofs.lemmas.Iterator.{YieldsList-from_slice}
+use Rattle.std.proofs.lemmas.Iterator.Consumers.{YieldsList-from_copied, max_from_yields_List}
+use Rattle.rules.proofs.Tests.{ltb_max}
+use Rattle.rules.proofs.Words.{most_is}
 use Rattle.tick.specs.Tick.{can_count}
 use Rattle.tick.proofs.lent.are_waits.Goals as goal
 
-pub loop-w-init : goal.loop-w-init
-unfolding every
-loop-w-init c = refl
-
-pub loop-w-preserved : goal.loop-w-preserved
-loop-w-preserved c =
-    rw c.max-most.ensures
-    (max_more (λ w. ltb w 0xffff_ffff_ffff_ffff) (ltb_max 0xffff_ffff_ffff_ffff) c.args.waits.now c.loop-w.most c.loop-w.w-index (omega arith)
-    c.loop-w.invariant)
-
 pub returns : goal.returns
 unfolding can_count
-returns c = c.loop-w.invariant ∙ every_take_all (λ w. ltb w 0xffff_ffff_ffff_ffff) c.args.waits.now c.loop-w.w-index (omega arith)
+returns c =
+    let most = max_from_yields_List _ _ c.max.ensures.ran (YieldsList-from_copied (YieldsList-from_slice c.args.waits.now cc)) in
+    ap (λ x. ltb x 0xffff_ffff_ffff_ffff) c.unwrap_or.ensures
+    ∙ most_is (λ w. ltb w 0xffff_ffff_ffff_ffff) (ltb_max 0xffff_ffff_ffff_ffff) refl c.max.result c.args.waits.now most

@@ -1,7 +1,7 @@
 -- The waits so far are counted.
 use Rattle.std.proofs.Common.{◌≡◌}
 use Rattle.turns.specs.Tick.{counted_to}
-use Rattle.safety.specs.Shuttles.{fleet_of}
+use Rattle.safety.specs.Fleets.{fleet_of}
 use Rattle.tick.proofs.waiting.count_waits.Given as goal
 
 abbrev pub invariant-loop-i : goal.invariant-loop-i

@@ -7,13 +7,9 @@ use Rattle.rules.proofs.Tests.{every_tells}
 use Rattle.field.proofs.Facts.{facts}
 use Rattle.field.proofs.field.Field.is_free.Goals as goal
 
-pub returns-then-place-self : goal.returns-then-place-self
+pub returns : goal.returns
 unfolding free_square field_in
-returns-then-place-self c =
+returns c =
     let k = facts c.args.self.now in
-    let mark = every_tells (λ w. leb w 1) c.args.self.now.walls.now k.are_marks c.args.square 0 (grind arith) in
+    let mark = every_tells (λ w. leb w 1) c.args.self.now.walls.now k.are_marks c.args.square 0 in
     let long = k.walls_long in grind (arith, nat_tests)
-
-pub returns-else-place-self : goal.returns-else-place-self
-unfolding free_square field_in
-returns-else-place-self c = let long = (facts c.args.self.now).walls_long in grind (arith, nat_tests)

@@ -1,58 +1,57 @@
--- What the entry answers, and that its memory is one that calls have led to.
-use Rattle.std.proofs.Common.{◌≡◌, vec_items, sym, refl, ◌∙◌}
+-- The event is taken in the memory of the hall.
+use Rattle.std.proofs.Common.{◌≡◌, Ok, Err, vec_items, rules, sym, refl, ◌∙◌}
 use Rattle.std.specs.Vec.{with_items}
 use Rattle.std.proofs.lemmas.List.{with_items_is}
-use Rattle.hall.specs.Answer.{number}
-use Rattle.session.specs.Played.{field_of}
-use Rattle.session.proofs.Turns.{led_on, says_on, by_three}
+use Rattle.field.specs.Model.{numbers_in}
+use Rattle.hall.specs.Event.{event_of}
+use Rattle.text.specs.declared.answers.Answer.TheVariants.{Granted, Not}
+use Rattle.session.proofs.Led.{led_field, led_memory}
+use Rattle.session.proofs.Taking.{led_on, came_on, number_granted, number_not, number_refused}
 use Rattle.session.proofs.state.Session.event.Goals as goal
-use Rattle.session.proofs.state.Session.event.Goals.{After-happen}
+use Rattle.session.proofs.state.Session.event.Goals.{After-take}
 
--- the memory that the call leaves is what the hall holds
-filled : (c : After-happen) → c.happen.new.memory ≡ vec_items (with_items c.args.self.now.memory c.happen.new.memory)
-filled c = sym (with_items_is c.args.self.now.memory c.happen.new.memory (c.happen.auto.memory ∙ c.as_mut_slice-memory.ensures.len))
+pub lent-field-requires : goal.lent-field-requires
+lent-field-requires c = led_field c.args.self.now.reached
+
+pub take-requires : goal.take-requires
+take-requires c = let led = led_memory c.args.self.now.reached in rw (c.lent-field.ensures, c.as_mut_slice-memory.ensures.value) led
+
+-- the memory that is left is what the hall holds
+filled : (c : After-take) → c.take.new.memory ≡ vec_items (with_items c.args.self.now.memory c.take.new.memory)
+filled c = sym (with_items_is c.args.self.now.memory c.take.new.memory (c.take.auto.memory ∙ c.as_mut_slice-memory.ensures.len))
 
 pub invariant_of-self : goal.invariant_of-self
 invariant_of-self c =
     let s = c.args.self.now in
-    record {
-      reached = led_on s.across s.down (vec_items s.walls) c.as_slice-walls.result.now (vec_items s.bays) c.as_slice-bays.result.now (vec_items s.memory)
-          c.as_mut_slice-memory.result.now (vec_items (with_items s.memory c.happen.new.memory)) c.happen.new.memory c.as_slice-walls.ensures.value
-          c.as_slice-bays.ensures.value c.as_mut_slice-memory.ensures.value (filled (goal.at.invariant_of-self c).After-happen) c.happen.ensures.stays s.reached;
-    }
+    let led =
+    led_on s (numbers_in c.lent-field.result) c.as_mut_slice-memory.result.now c.take.new.memory c.lent-field.ensures c.as_mut_slice-memory.ensures.value
+    (event_of c.args.shuttle c.args.event) c.take.result c.take.ensures in
+    record { reached = rw (filled (goal.at.invariant_of-self c).After-take) at led }
 
-pub returns-in-Happened : goal.returns-in-Happened
-unfolding number
-returns-in-Happened c =
+pub returns-in_err-take : goal.returns-in_err-take
+returns-in_err-take c =
     let s = c.args.self.now in
-    let says =
-    says_on s.across s.down (vec_items s.walls) c.as_slice-walls.result.now (vec_items s.bays) c.as_slice-bays.result.now (vec_items s.memory)
-    c.as_mut_slice-memory.result.now (vec_items (with_items s.memory c.happen.new.memory)) c.happen.new.memory c.args.kind c.args.shuttle 0 c.args.route.now
-    c.as_slice-walls.ensures.value c.as_slice-bays.ensures.value c.as_mut_slice-memory.ensures.value (filled (goal.at.returns-in-Happened c).After-happen) s.reached
-    c.in-Happened.ensures.says
+    let refusal = c.in_err-take.field-0.0 in
+    let e = event_of c.args.shuttle c.args.event in
+    let came =
+    came_on s (numbers_in c.lent-field.result) c.as_mut_slice-memory.result.now c.take.new.memory c.lent-field.ensures c.as_mut_slice-memory.ensures.value e
+    (Err refusal) c.in_err-take.ensures _ (Err refusal) refl (filled (goal.at.returns-in_err-take c).After-take) (number_refused refusal)
     in
-    record { came = record { across = refl; down = refl; walls = refl; bays = refl; says = says } }
+    let turned : c.from_residual.result ≡ Err refusal = search rules in
+    rw turned came
 
-pub returns-in-Not : goal.returns-in-Not
-unfolding number
-returns-in-Not c =
+pub returns-then-branch : goal.returns-then-branch
+returns-then-branch c =
     let s = c.args.self.now in
-    let says =
-    says_on s.across s.down (vec_items s.walls) c.as_slice-walls.result.now (vec_items s.bays) c.as_slice-bays.result.now (vec_items s.memory)
-    c.as_mut_slice-memory.result.now (vec_items (with_items s.memory c.happen.new.memory)) c.happen.new.memory c.args.kind c.args.shuttle 1 c.args.route.now
-    c.as_slice-walls.ensures.value c.as_slice-bays.ensures.value c.as_mut_slice-memory.ensures.value (filled (goal.at.returns-in-Not c).After-happen) s.reached
-    c.in-Not.ensures.says
-    in
-    record { came = record { across = refl; down = refl; walls = refl; bays = refl; says = says } }
+    let e = event_of c.args.shuttle c.args.event in
+    came_on s (numbers_in c.lent-field.result) c.as_mut_slice-memory.result.now c.take.new.memory c.lent-field.ensures c.as_mut_slice-memory.ensures.value e
+    (Ok c.in_ok-take.field-0) c.in_ok-take.ensures _ (Ok Granted) refl (filled (goal.at.returns-then-branch c).After-take)
+    (number_granted c.in_ok-take.field-0 c.if-branch.true)
 
-pub returns-in-Refused : goal.returns-in-Refused
-unfolding number
-returns-in-Refused c =
+pub returns-else-branch : goal.returns-else-branch
+returns-else-branch c =
     let s = c.args.self.now in
-    let says =
-    says_on s.across s.down (vec_items s.walls) c.as_slice-walls.result.now (vec_items s.bays) c.as_slice-bays.result.now (vec_items s.memory)
-    c.as_mut_slice-memory.result.now (vec_items (with_items s.memory c.happen.new.memory)) c.happen.new.memory c.args.kind c.args.shuttle _ c.args.route.now
-    c.as_slice-walls.ensures.value c.as_slice-bays.ensures.value c.as_mut_slice-memory.ensures.value (filled (goal.at.returns-in-Refused c).After-happen) s.reached
-    c.in-Refused.ensures.says
-    in
-    record { came = record { across = refl; down = refl; walls = refl; bays = refl; says = by_three _ (field_of s) (vec_items s.memory) _ _ _ says } }
+    let e = event_of c.args.shuttle c.args.event in
+    came_on s (numbers_in c.lent-field.result) c.as_mut_slice-memory.result.now c.take.new.memory c.lent-field.ensures c.as_mut_slice-memory.ensures.value e
+    (Ok c.in_ok-take.field-0) c.in_ok-take.ensures _ (Ok Not) refl (filled (goal.at.returns-else-branch c).After-take)
+    (number_not c.in_ok-take.field-0 c.if-branch.false)

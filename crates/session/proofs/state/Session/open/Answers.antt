@@ -1,62 +1,51 @@
--- Start memory is memory that calls have led to.
-use Rattle.std.proofs.Common.{◌≡◌, vec_items, sym, refl, ap, ◌∙◌, arith}
+-- Each shuttle is at home; what was turned away is no field.
+use Rattle.std.proofs.Common.{◌≡◌, false, Err, vec_items, rules, sym, refl, ap, ◌∙◌, arith}
 use Rattle.std.specs.Vec.{with_items}
 use Rattle.std.proofs.lemmas.List.{with_items_is}
 use Rattle.rules.specs.Shuttle.{at_home}
-use Rattle.rules.specs.Memory.{field_in, field_ok, shuttle_in}
+use Rattle.rules.specs.Memory.{FieldNumbers, field_numbers, field_in, field_ok, shuttle_in}
 use Rattle.rules.proofs.Fields.{accepted}
-use Rattle.hall.specs.Answer.{number}
-use Rattle.session.proofs.Turns.{led_begun, start_home, start_none}
+use Rattle.text.specs.Shown.{numbers_of}
+use Rattle.text.specs.declared.failure.Failure.TheVariants.{Refused}
+use Rattle.session.proofs.Opening.{start_home, start_none}
 use Rattle.session.proofs.state.Session.open.Goals as goal
 use Rattle.session.proofs.state.Session.open.Goals.{After-start}
+
+-- the numbers that were lent
+lent : (c : After-start) → field_numbers c.args.shown.across c.args.shown.down c.as_slice-walls.result.now c.as_slice-bays.result.now ≡ numbers_of c.args.shown
+lent c = λ i. field_numbers c.args.shown.across c.args.shown.down (c.as_slice-walls.ensures.value i) (c.as_slice-bays.ensures.value i)
 
 -- the memory that the start leaves is what the hall holds
 filled : (c : After-start) → c.start.new.memory ≡ vec_items (with_items c.in_ok-memory.memory c.start.new.memory)
 filled c = sym (with_items_is c.in_ok-memory.memory c.start.new.memory (c.start.auto.memory ∙ c.as_mut_slice.ensures.len))
 
-pub invariant_of-result : goal.invariant_of-result
-unfolding number
-invariant_of-result c =
-    let t = c.args.shown in
+pub returns : goal.returns
+returns c =
+    let a = (goal.at.returns c).After-start in
+    let home = start_home _ c.as_mut_slice.result.now c.start.new.memory c.in_ok-start.ensures.answered.says in
     record {
-      reached = led_begun t.across t.down (vec_items t.walls) c.as_slice.result.now (vec_items t.bays) c.as_slice-2.result.now
-          (vec_items (with_items c.in_ok-memory.memory c.start.new.memory)) c.start.new.memory c.as_slice.ensures.value c.as_slice-2.ensures.value
-          (filled (goal.at.invariant_of-result c).After-start) (c.in-Happened.ensures.begins refl);
-    }
-
-pub returns-in-Happened : goal.returns-in-Happened
-unfolding number
-returns-in-Happened c =
-    let t = c.args.shown in
-    let home = start_home t.across t.down c.as_slice.result.now c.as_slice-2.result.now _ c.start.new.memory c.in-Happened.ensures.says in
-    record {
-      across = refl;
-      down = refl;
-      walls = refl;
-      bays = refl;
+      same = refl;
       home = λ i _.
-          ap (λ l. shuttle_in l i) (sym (filled (goal.at.returns-in-Happened c).After-start)) ∙ home i
-          ∙ ap (λ l. at_home (field_in t.across t.down l c.as_slice-2.result.now) i) c.as_slice.ensures.value
-          ∙ ap (λ l. at_home (field_in t.across t.down (vec_items t.walls) l) i) c.as_slice-2.ensures.value;
+          ap (λ l. shuttle_in l i) (sym (filled a)) ∙ home i ∙ ap (λ (n : FieldNumbers). at_home (field_in n) i) (lent a);
     }
 
-pub returns-in_default : goal.returns-in_default
-returns-in_default c =
-    let t = c.args.shown in
-    let no_field =
-    start_none t.across t.down c.as_slice.result.now c.as_slice-2.result.now _ c.start.new.memory c.start.result c.start.ensures.says
-    c.in_default.not-Happened
+pub returns-in_err-start : goal.returns-in_err-start
+returns-in_err-start c =
+    let a = (goal.at.returns-in_err-start c).After-start in
+    let refusal = c.in_err-start.field-0.0 in
+    let none =
+    start_none _ c.as_mut_slice.result.now c.start.new.memory refusal c.in_err-start.ensures.answered.says
     (λ ok.
     omega (
       arith,
-      (accepted t.across t.down c.as_slice.result.now c.as_slice-2.result.now ok).few,
-      c.as_slice-2.ensures.len,
+      (accepted _ ok).few,
+      c.as_slice-bays.ensures.len,
       c.len.ensures,
       c.min.ensures,
       c.in_ok-memory.ensures.len,
       c.as_mut_slice.ensures.len,
     ))
     in
-    sym (ap (λ l. field_ok t.across t.down l c.as_slice-2.result.now) c.as_slice.ensures.value
-    ∙ ap (field_ok t.across t.down (vec_items t.walls)) c.as_slice-2.ensures.value)
-    ∙ no_field
+    let no_field : field_ok (numbers_of c.args.shown) ≡ false = sym (ap field_ok (lent a)) ∙ none.1 in
+    let turned : c.from_residual-in_err-start.result ≡ Err (Refused refusal) = search rules in
+    rw turned (none.0, no_field)

@@ -1,53 +1,45 @@
 -- What the way answers.
-use Rattle.std.proofs.Common.{◌<◌, length, get_or, vec_items, sym, refl, ap, ◌∙◌, inr, arith}
-use Rattle.std.specs.Option.{option_map}
+use Rattle.std.proofs.Common.{◌≡◌, ◌<◌, length, get_or, vec_items, Some, None, Ok, Err, refl, subst, rules}
+use Rattle.rules.specs.Memory.{FieldNumbers, field_in}
+use Rattle.field.specs.Model.{numbers_in}
+use Rattle.text.specs.declared.failure.Failure.TheVariants.{Refused}
+use Rattle.session.specs.Ways.{squares_at, Told}
 use Rattle.session.proofs.Told.{told_along, told_nowhere, told_refused}
-use Rattle.rules.proofs.Fields.{accepted}
-use Rattle.session.proofs.Turns.{led_field}
 use Rattle.session.proofs.state.Session.way.Goals as goal
 
-pub squares_at-requires : goal.squares_at-requires
-squares_at-requires c =
-    let s = c.args.self.now in
-    let k = accepted s.across s.down (vec_items s.walls) (vec_items s.bays) (led_field s.across s.down (vec_items s.walls) (vec_items s.bays) (vec_items s.memory) s.reached) in
-    record { wide = k.across_most; high = k.down_most }
-
-pub letters_of-requires : goal.letters_of-requires
-letters_of-requires c =
-    let s = c.args.self.now in
-    let k = accepted s.across s.down (vec_items s.walls) (vec_items s.bays) (led_field s.across s.down (vec_items s.walls) (vec_items s.bays) (vec_items s.memory) s.reached) in
-    k.across_most
-
-pub returns-in-Found : goal.returns-in-Found
-returns-in-Found c =
-    let s = c.args.self.now in
-    let here : c.args.shuttle < length (vec_items s.bays) = omega (arith, ap length c.as_slice-bays.ensures.value, c.if-shuttle-bays.false) in
-    let are = sym c.in_ok-row.ensures ∙ ap (option_map vec_items) c.in-Some.is in
-    let t = told_along s.across s.down (vec_items s.walls) c.as_slice-walls.result.now (vec_items s.bays) c.as_slice-bays.result.now c.args.shuttle _
-    (vec_items c.in-Some.row) c.as_slice.result.now _ c.way.new.route c.as_slice-walls.ensures.value c.as_slice-bays.ensures.value
-    (ap (λ l. get_or l c.args.shuttle 0) c.as_slice-bays.ensures.value) c.as_slice.ensures.value refl
-    (vec_items c.in_ok-letters_of-in-Found.field-0) c.in-Found.k c.in-Found.ensures c.in_ok-letters_of-in-Found.ensures in
-    (here, (vec_items c.in-Some.row, are, t.0, t.1))
-
-pub returns-in-None : goal.returns-in-None
-returns-in-None c =
-    let s = c.args.self.now in
-    let here : c.args.shuttle < length (vec_items s.bays) = omega (arith, ap length c.as_slice-bays.ensures.value, c.if-shuttle-bays.false) in
-    let are = sym c.in_ok-row.ensures ∙ ap (option_map vec_items) c.in-Some.is in
-    let t = told_nowhere s.across s.down (vec_items s.walls) c.as_slice-walls.result.now (vec_items s.bays) c.as_slice-bays.result.now c.args.shuttle _
-    (vec_items c.in-Some.row) c.as_slice.result.now _ c.way.new.route c.as_slice-walls.ensures.value c.as_slice-bays.ensures.value
-    (ap (λ l. get_or l c.args.shuttle 0) c.as_slice-bays.ensures.value) c.as_slice.ensures.value refl
-    c.in-None.ensures in
-    (here, (vec_items c.in-Some.row, are, t.0, t.1))
+pub returns-in-Some : goal.returns-in-Some
+returns-in-Some c =
+    let f = c.field-field.result in
+    let there : c.args.shuttle < length f.bays.now = search rules in
+    let bay : c.in_ok-bay.bay ≡ get_or f.bays.now c.args.shuttle 0 = search rules in
+    let squares : squares_at (field_in (numbers_in f)) c.args.places.now ≡ Some (vec_items c.in_ok-row.row) = search rules in
+    let answered = rw c.in-Some.is at c.in_ok-found.ensures in
+    subst (λ (lent : FieldNumbers). Told lent c.args.shuttle c.args.places.now (Ok (Some c.in_ok-letters_of-in-Some.field-0))) c.field-field.ensures
+    (told_along (numbers_in f) c.args.shuttle _ c.args.places.now (vec_items c.in_ok-row.row) c.as_slice.result.now _ c.way.new.route there bay squares
+    c.as_slice.ensures.value refl c.in-Some.squares c.in_ok-letters_of-in-Some.field-0 answered c.in_ok-letters_of-in-Some.ensures)
 
 pub returns : goal.returns
 returns c =
-    let s = c.args.self.now in
-    let here : c.args.shuttle < length (vec_items s.bays) = omega (arith, ap length c.as_slice-bays.ensures.value, c.if-shuttle-bays.false) in
-    let are = sym c.in_ok-row.ensures ∙ ap (option_map vec_items) c.in-Some.is in
-    let ok = led_field s.across s.down (vec_items s.walls) (vec_items s.bays) (vec_items s.memory) s.reached in
-    let t = told_refused s.across s.down (vec_items s.walls) c.as_slice-walls.result.now (vec_items s.bays) c.as_slice-bays.result.now c.args.shuttle _
-    (vec_items c.in-Some.row) c.as_slice.result.now _ c.way.new.route c.as_slice-walls.ensures.value c.as_slice-bays.ensures.value
-    (ap (λ l. get_or l c.args.shuttle 0) c.as_slice-bays.ensures.value) c.as_slice.ensures.value refl
-    c.in-Refused.field-0 ok here c.in-Refused.ensures in
-    inr (refl, here, inr (vec_items c.in-Some.row, are, t))
+    let f = c.field-field.result in
+    let there : c.args.shuttle < length f.bays.now = search rules in
+    let bay : c.in_ok-bay.bay ≡ get_or f.bays.now c.args.shuttle 0 = search rules in
+    let squares : squares_at (field_in (numbers_in f)) c.args.places.now ≡ Some (vec_items c.in_ok-row.row) = search rules in
+    let answered = rw c.in-None.is at c.in_ok-found.ensures in
+    subst (λ (lent : FieldNumbers). Told lent c.args.shuttle c.args.places.now (Ok None)) c.field-field.ensures
+    (told_nowhere (numbers_in f) c.args.shuttle _ c.args.places.now (vec_items c.in_ok-row.row) c.as_slice.result.now _ c.way.new.route there bay squares
+    c.as_slice.ensures.value refl answered)
+
+pub returns-in_err-found : goal.returns-in_err-found
+returns-in_err-found c =
+    let f = c.field-field.result in
+    let there : c.args.shuttle < length f.bays.now = search rules in
+    let bay : c.in_ok-bay.bay ≡ get_or f.bays.now c.args.shuttle 0 = search rules in
+    let squares : squares_at (field_in (numbers_in f)) c.args.places.now ≡ Some (vec_items c.in_ok-row.row) = search rules in
+    let refusal = c.in_err-found.field-0.0 in
+    let told =
+    subst (λ (lent : FieldNumbers). Told lent c.args.shuttle c.args.places.now (Err refusal)) c.field-field.ensures
+    (told_refused (numbers_in f) c.args.shuttle _ c.args.places.now (vec_items c.in_ok-row.row) c.as_slice.result.now _ c.way.new.route there bay squares
+    c.as_slice.ensures.value refl refusal f.accepted c.in_err-found.ensures)
+    in
+    let turned : c.from_residual-in_err-found.result ≡ Err (Refused refusal) = search rules in
+    rw turned told

@@ -1,2 +1,0 @@
--- What an order makes of memory.
-pub mod Order

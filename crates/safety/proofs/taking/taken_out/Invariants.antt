@@ -1,7 +1,0 @@
--- The round so far.
-use Rattle.std.proofs.Common.{◌≡◌, ◌<◌}
-use Rattle.safety.specs.Masks.{round}
-use Rattle.safety.proofs.taking.taken_out.Given as goal
-
-abbrev pub invariant-loop-i : goal.invariant-loop-i
-invariant-loop-i l = (l.out < 65536) × (l.out ≡ round l.blockers l.i l.initial.out)
