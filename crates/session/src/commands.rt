@@ -25,7 +25,7 @@ pub enum Command {
     Show,
 }
 
-// A shuttle, as exactly one letter.
+// A shuttle, as exactly one letter. Texts make a shuttle of a letter too: a function for one subtraction is no plainer.
 fn read_shuttle(word: &[u8]) -> Option<u64>
     ensures { result ≡ shuttle_of word.now }
 {

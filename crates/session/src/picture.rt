@@ -8,7 +8,8 @@ use super::state::Session;
 use field::Field;
 use std::alloc::{AllocError, Global};
 
-// The small letter of a shuttle.
+// The small letter of a shuttle. That it is below 16 is said by each function that hands a shuttle on: a type for such a
+// number would have to hold the field.
 pub fn letter_of(shuttle: usize) -> u8
     requires { shuttle < 16 }
     ensures { result ≡ 97 + shuttle }
