@@ -1,3 +1,4 @@
 -- Answers as numbers.
 pub mod Numbers
 pub mod TickNumbers
+pub mod WayNumbers

@@ -39,9 +39,14 @@ unfolding TickSays
 says_small zero lent m vs marks n m₁ vs₁ l few s = comes_small _ lent marks m n m₁ vs₁ (few refl) s
 says_small (suc k) lent m vs marks n m₁ vs₁ l few s = omega (arith, s.0)
 
-pub tick_small : (lent : FieldNumbers) (m vs marks m₁ vs₁ : List ℕ) (r : Result (Option ℕ) Refusal)
+pub tick_small : (lent : FieldNumbers) (m vs marks : List ℕ) (n : ℕ) (m₁ vs₁ : List ℕ)
+    → TickSays (tick_refusal lent m vs marks) lent m vs marks n m₁ vs₁ → n < 131072
+tick_small lent m vs marks n m₁ vs₁ s =
+    let small = says_small _ lent m vs marks n m₁ vs₁ (refusal_most lent m vs marks)
+    (λ e. (accepted lent (not_refused lent m vs marks e)).few) s in omega arith
+
+-- so the number that is handed on has 64 bits
+pub tick_fits : (lent : FieldNumbers) (m vs marks m₁ vs₁ : List ℕ) (r : Result (Option ℕ) Refusal)
     → Answered lent m vs marks (tick_number r) m₁ vs₁ → number 0 r < 2 ^ 64
-tick_small lent m vs marks m₁ vs₁ r a =
-    let small = says_small _ lent m vs marks (tick_number r) m₁ vs₁ (refusal_most lent m vs marks)
-    (λ e. (accepted lent (not_refused lent m vs marks e)).few) a.says in
-    let same = same_number r in omega arith
+tick_fits lent m vs marks m₁ vs₁ r a =
+    let small = tick_small lent m vs marks (tick_number r) m₁ vs₁ a.says in let same = same_number r in omega arith

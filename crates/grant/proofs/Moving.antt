@@ -62,6 +62,11 @@ waiting m s h =
     let some : s.left ≡ 0 → ⊥ = λ e. both_ways _ (ap (λ k. not (is_empty (take k (drop s.from m)))) e) both.1 in
     (not-true _ both.0, omega arith)
 
+-- with none left its route is empty
+pub none_left : (m : List ℕ) (s : Kept) → s.left ≡ 0 → is_empty (shuttle_of m s).route ≡ true
+unfolding is_empty
+none_left m s e = rw e
+
 -- the tests of a step, over a fleet of the code
 pub grants_of : (f : Held) (i : ℕ) → i < f.count → (h : Field) → h.shuttles ≡ f.count
     → (get_or f.shuttles i nobody).moving ≡ false → 1 ≤ (get_or f.shuttles i nobody).left

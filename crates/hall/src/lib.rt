@@ -12,5 +12,6 @@ pub use calling::call;
 pub use done::Done;
 pub use entry::happen;
 pub use event::Event;
+pub use memory::write_step_at as write_step;
 pub use starting::start;
 pub use taking::take_arrival;

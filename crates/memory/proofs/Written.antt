@@ -1,11 +1,11 @@
 -- What is written at home, at a step and at an arrival is the shuttle after it.
-use Rattle.std.proofs.Common.{◌≡◌, ℕ, suc, ◌+◌, ◌-◌, ◌*◌, ◌<◌, ◌≤◌, Bool, true, false, List, ◌∷◌, ◌++◌, length, get_or, take, drop, set, sym, ap, ◌∙◌, append_assoc, add-zero, arith}
+use Rattle.std.proofs.Common.{◌≡◌, ℕ, suc, ◌+◌, ◌-◌, ◌*◌, ◌<◌, ◌≤◌, Bool, true, false, List, ◌∷◌, ◌++◌, length, get_or, take, drop, set, sym, ap, subst, ◌∙◌, append_assoc, add-zero, arith}
 use Rattle.std.proofs.lemmas.List.{length-take, length-drop, take_all, take-append-drop, drop-append-le, drop-drop, drop_more, drop-set-lt}
 use Rattle.std.specs.List.{copy_within}
 use Rattle.rules.specs.Field.{Field}
 use Rattle.rules.specs.Shuttle.{Shuttle, at_home, stepped, stepped_to, arrived}
 use Rattle.rules.specs.Memory.{shuttle_in, stored}
-use Rattle.memory.specs.Written.{headed}
+use Rattle.memory.specs.Written.{headed, headed_from}
 use Rattle.memory.proofs.Writing.{headed_long, stored_is}
 
 -- the numbers of a shuttle at home need no place for what is left
@@ -36,13 +36,13 @@ left_cons m a n some l =
     let e : n ≡ suc (n - 1) = omega arith in ap (λ k. take k (drop a m)) e ∙ ap (take (suc (n - 1))) (drop_more m a 0 l)
 
 -- each element moved one to the front: what follows the first, and the last again
-moved_up_is : (xs : List ℕ) → 1 ≤ length xs → copy_within xs 1 (length xs) 0 ≡ drop 1 xs ++ drop (length xs - 1) xs
+pub moved_up_is : (xs : List ℕ) → 1 ≤ length xs → copy_within xs 1 (length xs) 0 ≡ drop 1 xs ++ drop (length xs - 1) xs
 moved_up_is xs l =
     let e = take_all (length xs - 1) (drop 1 xs) (let q = length-drop 1 xs in omega arith) in
     let z : 0 + (length xs - 1) ≡ length xs - 1 = omega arith in rw (e, z)
 
 -- a part so moved, put back: what follows its first element, and from its last place on what stood there
-moved_up : (h : List ℕ) (a n : ℕ) → 1 ≤ n → a + n ≤ length h
+pub moved_up : (h : List ℕ) (a n : ℕ) → 1 ≤ n → a + n ≤ length h
     → take a h ++ (copy_within (take n (drop a h)) 1 (length (take n (drop a h))) 0 ++ drop (a + n) h)
     ≡ take a h ++ (drop 1 (take n (drop a h)) ++ drop (a + (n - 1)) h)
 moved_up h a n some l =
@@ -94,3 +94,14 @@ module _ (m : List ℕ) (i : ℕ) (there : 260 * i + 260 ≤ length m) (room : g
       ∙ ap (λ k. take a h ++ (cs ++ drop (a + k) h)) (sym rest)
       ∙ ap (λ t. take a t ++ (cs ++ drop (a + length cs) t)) as_head
       ∙ sym (stored_is m i s (omega arith)) ∙ ap (stored m i) (sym on)
+
+-- a step written where the numbers of shuttle i begin is the shuttle after it
+abbrev StepAt : (m : List ℕ) (i place : ℕ) → Type 0
+StepAt m i place =
+    place + 260 ≤ length m → get_or m (place + 3) 0 ≤ 256 → 1 ≤ get_or m (place + 3) 0 → (h part : List ℕ)
+    → h ≡ headed_from m place (get_or m (place + 4) 0) true (get_or m place 0) (get_or m (place + 3) 0 - 1)
+    → part ≡ copy_within (take (get_or m (place + 3) 0) (drop (place + 4) h)) 1 (length (take (get_or m (place + 3) 0) (drop (place + 4) h))) 0
+    → take (place + 4) h ++ (part ++ drop (place + 4 + get_or m (place + 3) 0) h) ≡ stored m i (stepped (shuttle_in m i))
+
+pub step_at_is : (m : List ℕ) (i place : ℕ) → place ≡ 260 * i → StepAt m i place
+step_at_is m i place e = subst (StepAt m i) (sym e) (λ there room. step_is m i there room)

@@ -5,11 +5,13 @@
 mod accepted;
 mod hall;
 mod layout;
+mod numbers;
 mod shuttle;
 mod write;
 
 pub use accepted::is_memory;
 pub use hall::Hall;
 pub use layout::NUMBERS;
+pub use numbers::write_numbers;
 pub use shuttle::Shuttle;
-pub use write::{write_home, write_step};
+pub use write::{write_home, write_step, write_step_at};

@@ -4,9 +4,10 @@ ghost use Rattle.std.specs.Prelude.{◌≡◌, ℕ, ◌+◌, ◌*◌, ◌≤◌,
 ghost use Rattle.rules.specs.Field.{Field};
 ghost use Rattle.rules.specs.Shuttle.{at_home, ordered, stepped, arrived};
 ghost use Rattle.rules.specs.Memory.{shuttle_in, stored};
-ghost use Rattle.memory.specs.Written.{headed};
+ghost use Rattle.memory.specs.Written.{headed, headed_from};
 
 use super::layout::{BEHIND, LEFT, MOVING, NUMBERS, ROUTE};
+use super::numbers::write_numbers;
 
 // The four numbers of a shuttle that stand before what is left of its route.
 #[derive(Clone, Copy, PartialEq, Eq, Debug)]
@@ -17,16 +18,23 @@ pub struct Head {
     pub left: u16,
 }
 
+// Writes the four numbers of a shuttle from this place of memory on.
+pub fn write_head_at(memory: &mut [u16], place: usize, head: Head)
+    requires { place + 4 ≤ length memory.old }
+    ensures { memory.new ≡ headed_from memory.old place head.at head.moving head.behind head.left }
+{
+    memory[place] = head.at;
+    memory[place + MOVING] = u16::from(head.moving);
+    memory[place + BEHIND] = head.behind;
+    memory[place + LEFT] = head.left;
+}
+
 // Writes the four numbers of shuttle i.
 fn write_head(memory: &mut [u16], i: usize, head: Head)
     requires { 260 * i + 4 ≤ length memory.old }
     ensures { memory.new ≡ headed memory.old i head.at head.moving head.behind head.left }
 {
-    let place = NUMBERS * i;
-    memory[place] = head.at;
-    memory[place + MOVING] = u16::from(head.moving);
-    memory[place + BEHIND] = head.behind;
-    memory[place + LEFT] = head.left;
+    write_head_at(memory, NUMBERS * i, head);
 }
 
 // Writes the four numbers of shuttle i where it stands: its own square is behind it.
@@ -48,7 +56,7 @@ pub fn write_home(memory: &mut [u16], i: usize, bay: u16)
     requires { 260 * i + 4 ≤ length memory.old }
     ensures { (f : Field) → f.bay i ≡ bay → memory.new ≡ stored memory.old i (at_home f i) }
 {
-    write_standing(memory, i, bay, 0);
+    write_numbers(memory, NUMBERS * i, bay, false, bay, 0);
 }
 
 // Writes the route that shuttle i is given where it stands. The part of memory for what is left is lent on, a form of
@@ -58,25 +66,26 @@ pub fn write_order(memory: &mut [u16], i: usize, route: &[u16])
     requires short { length route.now ≤ 256 }
     ensures { memory.new ≡ stored memory.old i (ordered (shuttle_in memory.old i) route.now) }
 {
-    let at = memory[NUMBERS * i];
+    let place = NUMBERS * i;
+    let at = memory[place];
     let left = route.len();
     write_standing(memory, i, at, left as u16);
-    let from = NUMBERS * i + ROUTE;
+    let from = place + ROUTE;
     let to = from + left;
     memory[from..to].copy_from_slice(route);
 }
 
-// Writes a step of shuttle i, with something left: it is on its next square, moves from the one it was on, and has one
-// less left. The part of memory for what is left is lent on, as for an order.
-pub fn write_step(memory: &mut [u16], i: usize)
-    requires there { 260 * i + 260 ≤ length memory.old }
-    requires some { 1 ≤ slice_index memory.old (260 * i + 3) }
-    requires room { slice_index memory.old (260 * i + 3) ≤ 256 }
-    ensures { memory.new ≡ stored memory.old i (stepped (shuttle_in memory.old i)) }
+// Writes a step of the shuttle whose numbers begin at this place, with something left: it is on its next square, moves from the
+// one it was on, and has one less left. The part of memory for what is left is lent on, as for an order.
+pub fn write_step_at(memory: &mut [u16], place: usize)
+    requires there { place + 260 ≤ length memory.old }
+    requires some { 1 ≤ slice_index memory.old (place + 3) }
+    requires room { slice_index memory.old (place + 3) ≤ 256 }
+    ensures { (i : ℕ) → place ≡ 260 * i → memory.new ≡ stored memory.old i (stepped (shuttle_in memory.old i)) }
 {
-    let behind = memory[NUMBERS * i];
-    let left = memory[NUMBERS * i + LEFT];
-    let from = NUMBERS * i + ROUTE;
+    let behind = memory[place];
+    let left = memory[place + LEFT];
+    let from = place + ROUTE;
     let to = from + left as usize;
     let head = Head {
         at: memory[from],
@@ -84,8 +93,18 @@ pub fn write_step(memory: &mut [u16], i: usize)
         behind,
         left: left - 1,
     };
-    write_head(memory, i, head);
+    write_head_at(memory, place, head);
     memory[from..to].copy_within(1.., 0);
+}
+
+// Writes a step of shuttle i, with something left.
+pub fn write_step(memory: &mut [u16], i: usize)
+    requires there { 260 * i + 260 ≤ length memory.old }
+    requires some { 1 ≤ slice_index memory.old (260 * i + 3) }
+    requires room { slice_index memory.old (260 * i + 3) ≤ 256 }
+    ensures { memory.new ≡ stored memory.old i (stepped (shuttle_in memory.old i)) }
+{
+    write_step_at(memory, NUMBERS * i);
 }
 
 // Writes the arrival of shuttle i: it stands, and its own square is behind it.

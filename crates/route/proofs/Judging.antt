@@ -40,7 +40,7 @@ module _ (f : Field) (i : ℕ) where
       (rw (wrong, here) (grind (arith, nat_tests)), wrong)
 
   -- the end of the row, in the bay or outside
-  judged_end : (from at k : ℕ) (r : List ℕ) → k ≡ length r → Judging from at k r
+  pub judged_end : (from at k : ℕ) (r : List ℕ) → k ≡ length r → Judging from at k r
       → (route_ok f i from r ≡ eqb at (f.bay i)) × (first_wrong f i from r ≡ length r)
   unfolding route_ok first_wrong
   judged_end from at k r all j =

@@ -25,6 +25,11 @@ pub any_to_from : (p : ℕ → Bool) (n k : ℕ) → k < n → p k ≡ true → 
 unfolding any_to
 any_to_from p n k l h = (Decides-below_or p (λ k. p k ≡ true) (any_to p) (λ k. (λ e. e, λ e. e)) refl (λ _. refl) n).1 (k, l, h)
 
+-- if none passes, each fails
+pub any_to_none : (p : ℕ → Bool) (n : ℕ) → any_to p n ≡ false → (k : ℕ) → k < n → p k ≡ false
+any_to_none p n h k l =
+    ⊎_elim (λ e. absurd (both_ways (any_to p n) h (any_to_from p n k l e))) (λ e. e) (cases_Bool (p k))
+
 pub any_to_nowhere : (p : ℕ → Bool) (n : ℕ) → ((k : ℕ) → k < n → p k ≡ false) → any_to p n ≡ false
 any_to_nowhere p n h =
     ⊎_elim (λ e. let w = any_to_tells p n e in absurd (both_ways (p w.0) (h w.0 w.1) w.2)) (λ e. e)

@@ -7,3 +7,4 @@ mod safe;
 mod taking;
 
 pub use fleet::Fleet;
+pub use memory::write_numbers;

@@ -63,7 +63,8 @@ module _ (s : Session) (lent : FieldNumbers) (m left : List ℕ) (same : lent �
   pub led_on : ∥ Reached (numbers_of s) left ∥₁
   led_on = let on : Reached (numbers_of s) (memory_of s) → Reached (numbers_of s) left = rw (same, was) at taken.stays in ∥∥₁_map s.reached on
 
-  says_on : TakenBy (numbers_of s) (memory_of s) e (number (done_of r)) left
+  -- what it answers and leaves there
+  pub says_on : TakenBy (numbers_of s) (memory_of s) e (number (done_of r)) left
   says_on = rw (same, was) at taken.says
 
   pub came_on : (t : Session) (a : Result Answer Refusal) → numbers_of t ≡ numbers_of s → left ≡ memory_of t → number (done_of r) ≡ answer_number a → Came s t e a

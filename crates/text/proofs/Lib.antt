@@ -2,3 +2,4 @@
 mod Cutting
 mod Reading
 mod Making
+mod Verdicts

@@ -114,7 +114,7 @@ unfolding fault
 fault_gap rs across all o same fits are here = grind (arith, nat_tests)
 
 -- a sign stands somewhere exactly if it has a first place
-among_place : (c : ℕ) (s : List ℕ) → ltb (position_or_len (λ b. eqb b c) s) (length s) ≡ among c s
+pub among_place : (c : ℕ) (s : List ℕ) → ltb (position_or_len (λ b. eqb b c) s) (length s) ≡ among c s
 unfolding among
 among_place c [] = refl
 among_place c (b ∷ bs) = grind (arith, nat_tests, among_place c bs)

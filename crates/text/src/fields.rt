@@ -17,10 +17,10 @@ pub fn rows_in(lines: &[&[u8]]) -> usize
     ensures value { result ≡ row_count (pieces lines.now) }
     ensures bound { result ≤ length lines.now }
 {
-    lines
-        .iter()
-        .position(|line| line.is_empty())
-        .unwrap_or(lines.len())
+    match lines.iter().position(|line| line.is_empty()) {
+        Some(rows) => rows,
+        None => lines.len(),
+    }
 }
 
 // Whether it is the letter of a shuttle's bay: a to p.
@@ -36,12 +36,16 @@ fn is_field_sign(sign: u8) -> bool
     matches!(sign, b'.' | b'#') || is_bay_letter(sign)
 }
 
-// Whether it is a sign of a field, and no letter that stood before it, in the rows before or in its own.
+// Whether it is a sign of a field, and no letter that stood before it, in the rows before or in its own. Only a letter is looked
+// for among those before it, so that a field is read in one pass.
 fn sign_follows(before: &[u8], row: &[u8], sign: u8) -> bool
     ensures { result ≡ sign_fits (before.now ++ row.now) sign }
 {
-    let again = before.contains(&sign) || row.contains(&sign);
-    is_field_sign(sign) && !(is_bay_letter(sign) && again)
+    if is_bay_letter(sign) {
+        !before.contains(&sign) && !row.contains(&sign)
+    } else {
+        is_field_sign(sign)
+    }
 }
 
 // Whether each sign of a row follows those before it.

@@ -9,7 +9,7 @@ use Rattle.turns.specs.Tick.{waits, one_more, counted_to}
 use Rattle.tick.specs.Tick.{can_count}
 
 -- a wait that is not counted yet is as it was
-counted_after : (g : Fleet) (ws : List ℕ) (k i : ℕ) → k ≤ i → get_or (counted_to g ws k) i 0 ≡ get_or ws i 0
+pub counted_after : (g : Fleet) (ws : List ℕ) (k i : ℕ) → k ≤ i → get_or (counted_to g ws k) i 0 ≡ get_or ws i 0
 unfolding counted_to
 counted_after g ws zero i l = refl
 counted_after g ws (suc k) i l =

@@ -17,11 +17,22 @@ use Rattle.field.specs.Model.{numbers_in, field_of}
 use Rattle.memory.specs.declared.hall.Hall.{Hall}
 use Rattle.memory.specs.Halls.{Writes}
 use Rattle.tick.specs.Answer.{number_for, whose_of}
-use Rattle.tick.specs.Tick.{turns_ok, tick_refusal, called, come_in, Arrived, CalledRow, ComesTo, TickSays, Answered}
+use Rattle.tick.specs.Tick.{can_count, turns_ok, tick_refusal, called, come_in, Arrived, CalledRow, ComesTo, TickSays, Answered}
 use Rattle.tick.specs.Coming.{CameIn}
 use Rattle.tick.proofs.Choice.{Chosen, Nobody, chosen_tells, nobody_tells}
 use Rattle.tick.proofs.Coming.{called_is, called_not, called_holds, all_accepted, all_come_in}
 use Rattle.tick.proofs.Rows.{driven_reached, row_driven, call_done, call_says, come_arrived}
+
+-- waits and marks that are accepted
+pub record TurnsParts (n : ℕ) (vs marks : List ℕ) : Type 0 where
+  pub waits_long : length vs ≡ n
+  pub marks_long : length marks ≡ n
+  pub small : can_count vs ≡ true
+
+pub turns_parts : (n : ℕ) (vs marks : List ℕ) → turns_ok n vs marks ≡ true → TurnsParts n vs marks
+unfolding turns_ok
+turns_parts n vs marks h =
+    record { waits_long = grind (arith, nat_tests); marks_long = grind (arith, nat_tests); small = grind (arith, nat_tests) }
 
 -- a tick that is turned away
 pub answered_refused : (lent : FieldNumbers) (m vs marks : List ℕ) (e : Refusal) → number_of e ≡ tick_refusal lent m vs marks

@@ -79,7 +79,8 @@ module _ (f : Field) (g : ℕ) (end : Bool) (s c : ℕ) (table queue : List ℕ)
         one : weight (get_or table e 0) ≡ 1
         one = cond-true (eqb (get_or table e 0) 65535) 1 0 (eq-eqb (get_or table e 0) 65535 counted)
 
-        put_room : length queue < 4096
+        -- the queue has room for it
+        pub put_room : length queue < 4096
         put_room = omega (arith, E.room, one, get_or-le-sum_by weight table e 0 put_long)
 
         module _ (n : ℕ) (is_next : n ≡ suc (distance_in table c)) where

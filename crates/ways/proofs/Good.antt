@@ -9,6 +9,10 @@ use Rattle.rules.proofs.Tests.{empty_tells}
 use Rattle.ways.specs.Good.{past, unmet, enter, final, Good}
 use Rattle.ways.proofs.Greedy.{past_here, past_other, last}
 
+-- a list with an element is not the empty one
+pub cons_nil : (g : ℕ) (gs : List ℕ) → g ∷ gs ≡ [] → ⊥
+cons_nil g gs e = cc
+
 unmet_here : (c : ℕ) (r gs : List ℕ) → unmet c r (c ∷ gs) ≡ unmet c r gs
 unfolding unmet
 unmet_here c [] gs = past_here c gs

@@ -94,6 +94,10 @@ unfolding unmet
 met_none [] c gs m = past_all c gs m
 met_none (d ∷ ds) c gs m = met_none ds d (past c gs) (met_on c d ds gs (met_past c (d ∷ ds) gs m))
 
+-- what is visited is met early
+pub visits_none : (c : ℕ) (r gs : List ℕ) → Visits (c ∷ r) gs → unmet c r gs ≡ []
+visits_none c r gs v = met_none r c gs (visits_met gs c r v)
+
 -- the last of square c and the squares r
 unfoldable pub last : ℕ → List ℕ → ℕ
 last c [] = c

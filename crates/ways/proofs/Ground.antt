@@ -33,9 +33,18 @@ ground_prepared f g end s ground table G e apart zero far same =
     }
 
 -- whether the goal may be entered
-goal_open : (f : Field) (g : ℕ) (end : Bool) → enter f g end g ≡ (is_open f g || (end && free_square f g))
+pub goal_open : (f : Field) (g : ℕ) (end : Bool) → enter f g end g ≡ (is_open f g || (end && free_square f g))
 unfolding enter is_open
 goal_open f g end = grind (arith, nat_tests)
+
+-- what a table of the ground says of a square
+pub ground_open : (f : Field) (ground : List ℕ) (x : ℕ) → Ground f ground → distance_in ground x ≡ 65535 → is_open f x ≡ true
+ground_open f ground x G e =
+    ⊎_elim (λ y. y) (λ n. let z : distance_in ground x ≡ 65534 = G x ∙ cond-false (is_open f x) 65535 65534 n in absurd (omega arith)) (cases_Bool (is_open f x))
+
+pub ground_shut : (f : Field) (ground : List ℕ) (x : ℕ) → Ground f ground → (distance_in ground x ≡ 65535 → ⊥) → is_open f x ≡ false
+ground_shut f ground x G ne =
+    ⊎_elim (λ y. absurd (ne (G x ∙ cond-true (is_open f x) 65535 65534 y))) (λ n. n) (cases_Bool (is_open f x))
 
 -- what a table says at a square that none has come to yet, whatever it says past its end
 pub far_read : (table : List ℕ) (x : ℕ) → eqb (get_or table x 0) 65535 ≡ eqb (distance_in table x) 65535

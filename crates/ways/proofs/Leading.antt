@@ -1,16 +1,21 @@
 -- A way while it is written down, goal by goal.
-use Rattle.std.proofs.Common.{◌≡◌, ℕ, ◌+◌, ◌<◌, ◌≤◌, Bool, List, [], ◌∷◌, length, get_or, drop, sym, ◌∙◌, subst}
+use Rattle.std.proofs.Common.{◌≡◌, ℕ, ◌+◌, ◌<◌, ◌≤◌, Bool, List, [], ◌∷◌, length, get_or, drop, sym, ap, ◌∙◌, subst, arith}
 use Rattle.std.proofs.lemmas.List.{drop_more, drop_all}
 use Rattle.rules.specs.Field.{Field}
 use Rattle.ways.specs.Good.{Good, final, Best, Ends}
 use Rattle.ways.specs.Leg.{Bounds, Walked}
-use Rattle.ways.proofs.Led.{Led, led_met, led_leg, led_far, led_end, ends_rest}
+use Rattle.ways.proofs.Led.{Led, led_start, led_met, led_leg, led_far, led_end, ends_rest}
 
 -- the first k goals are met by the squares that were made, the last of which is `at`; with none left that is the bay
 pub record Leading (f : Field) (i from : ℕ) (goals made : List ℕ) (at k : ℕ) : Type 0 where
   pub led : Led f i from goals made at (drop k goals)
   pub ends : Ends (f.bay i) (drop k goals)
   pub home : drop k goals ≡ [] → at ≡ f.bay i
+
+-- at first none is met, and no square is made
+pub leading_start : (f : Field) (i from : ℕ) (goals : List ℕ) → 0 < length goals → Ends (f.bay i) goals → Leading f i from goals [] from 0
+leading_start f i from goals l e =
+    record { led = led_start f i from goals; ends = e; home = λ z. let n : length goals ≡ 0 = ap length z in absurd (omega arith) }
 
 -- the last of a row is what it ends in
 ends_last : (b g : ℕ) (gs : List ℕ) → Ends b (g ∷ gs) → gs ≡ [] → g ≡ b

@@ -48,6 +48,10 @@ best_drop f i c gs w b =
     }
 
 module _ (f : Field) (i c₀ : ℕ) (gs₀ : List ℕ) where
+  -- at first no square is driven, and all of the row is left
+  pub led_start : Led f i c₀ gs₀ [] c₀ gs₀
+  led_start = record { best = λ v b. b; left = λ r h. (r, h, omega arith) }
+
   -- a square of the row that one stands on is met
   pub led_met : (w : List ℕ) (c : ℕ) (gs : List ℕ) → Led f i c₀ gs₀ w c (c ∷ gs) → Led f i c₀ gs₀ w c gs
   led_met w c gs l =

@@ -1,5 +1,5 @@
 -- Marking the squares of a field in a table, one after the other: those that are free, and of these those that are nobody's bay.
-use Rattle.std.proofs.Common.{◌≡◌, ℕ, ◌+◌, ◌*◌, ◌<◌, Bool, true, cond, not, ◌&&◌, ◌||◌, eqb, ltb, List, length, set, sym, ap, ◌∙◌, ⊎_elim, add-one, arith}
+use Rattle.std.proofs.Common.{◌≡◌, ℕ, ◌+◌, ◌*◌, ◌<◌, Bool, true, false, cond, not, ◌&&◌, ◌||◌, eqb, ltb, List, length, set, sym, ap, ◌∙◌, ⊎_elim, add-one, arith}
 use Rattle.std.proofs.lemmas.List.{get_or-set_same, get_or-set_other}
 use Rattle.std.proofs.lemmas.Bool.{cases_eq, eq-eqb, ne_eqb, or_left}
 use Rattle.std.proofs.lemmas.Bool.Decides.{nat_tests}
@@ -12,10 +12,12 @@ use Rattle.ways.specs.Distances.{distance_in, Ground, is_open}
 abbrev pub Marks : (ℕ → Bool) → List ℕ → Type 0
 Marks p table = (x : ℕ) → distance_in table x ≡ cond (p x) 65535 65534
 
-marks_like : (p q : ℕ → Bool) (table : List ℕ) → ((x : ℕ) → q x ≡ p x) → Marks p table → Marks q table
+-- another test that the same squares pass has the same table
+pub marks_like : (p q : ℕ → Bool) (table : List ℕ) → ((x : ℕ) → q x ≡ p x) → Marks p table → Marks q table
 marks_like p q table same m x = m x ∙ ap (λ (b : Bool). cond b 65535 65534) (sym (same x))
 
-marks_set :
+-- a square is marked by a test that tells the same of every other square
+pub marks_set :
     (p q : ℕ → Bool) (table : List ℕ) (k v : ℕ) → k < length table → v ≡ cond (q k) 65535 65534 → ((x : ℕ) → (x ≡ k → ⊥) → q x ≡ p x)
     → Marks p table → Marks q (set table k v)
 marks_set p q table k v l e same m x =
@@ -38,6 +40,12 @@ pub free_more :
     (f : Field) (table : List ℕ) (k v : ℕ) → k < length table → v ≡ cond (free_square f k) 65535 65534 → Marks (free_below f k) table
     → Marks (free_below f (k + 1)) (set table k v)
 free_more f table k v l e m = marks_set (free_below f k) (free_below f (k + 1)) table k v l (grind (arith, nat_tests)) (free_off f k) m
+
+-- a square that is not free changes nothing in the table
+pub free_not : (f : Field) (table : List ℕ) (k : ℕ) → free_square f k ≡ false → Marks (free_below f k) table → Marks (free_below f (k + 1)) table
+free_not f table k h m =
+    marks_like (free_below f k) (free_below f (k + 1)) table
+    (λ x. ⊎_elim (λ (e : x ≡ k). let z : free_square f x ≡ false = ap (free_square f) e ∙ h in grind (arith, nat_tests)) (λ ne. free_off f k x ne) (cases_eq x k)) m
 
 -- the free squares that are none of the first j bays
 abbrev pub open_to : Field → ℕ → ℕ → Bool

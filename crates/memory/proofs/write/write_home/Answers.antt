@@ -4,4 +4,4 @@ use Rattle.memory.proofs.Written.{home_is}
 use Rattle.memory.proofs.write.write_home.Goals as goal
 
 pub returns : goal.returns
-returns c = λ f e. c.write_standing.ensures ∙ rw (← e) (home_is f c.args.memory.now c.args.i (omega arith))
+returns c = λ f e. c.write_numbers.ensures ∙ rw (← e) (home_is f c.args.memory.now c.args.i (omega arith))

@@ -5,14 +5,21 @@ use Rattle.text.specs.Fields.{sign_fits}
 use Rattle.text.proofs.Reading.{among_is, among_both}
 use Rattle.text.proofs.fields.sign_follows.Goals as goal
 
-pub returns-after-is_bay_letter : goal.returns-after-is_bay_letter
+pub returns-then-not-contains : goal.returns-then-not-contains
 unfolding sign_fits
-returns-after-is_bay_letter c =
+returns-then-not-contains c =
     let both = among_both c.args.sign c.args.before.now c.args.row.now in
     let before = among_is c.args.sign c.args.before.now in
     let row = among_is c.args.sign c.args.row.now in
     grind (arith, nat_tests)
 
-pub returns-else-is_field_sign : goal.returns-else-is_field_sign
+pub returns-else-not-contains : goal.returns-else-not-contains
 unfolding sign_fits
-returns-else-is_field_sign c = grind (arith, nat_tests)
+returns-else-not-contains c =
+    let both = among_both c.args.sign c.args.before.now c.args.row.now in
+    let before = among_is c.args.sign c.args.before.now in
+    grind (arith, nat_tests)
+
+pub returns-else-is_bay_letter : goal.returns-else-is_bay_letter
+unfolding sign_fits
+returns-else-is_bay_letter c = grind (arith, nat_tests)

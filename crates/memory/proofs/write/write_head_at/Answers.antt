@@ -2,7 +2,7 @@
 use Rattle.std.proofs.Common.{◌≡◌, Bool, true, false, refl}
 use mir.Val.{bool_byte}
 use Rattle.rules.specs.Memory.{mark}
-use Rattle.memory.proofs.write.write_head.Goals as goal
+use Rattle.memory.proofs.write.write_head_at.Goals as goal
 
 mark_is : (b : Bool) → bool_byte b ≡ mark b
 unfolding mark
