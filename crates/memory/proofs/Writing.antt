@@ -5,10 +5,14 @@ use Rattle.std.proofs.lemmas.List.{length-set}
 use Rattle.std.proofs.lemmas.List.Edits.{sets, sets-eq}
 use Rattle.rules.specs.Shuttle.{Shuttle}
 use Rattle.rules.specs.Memory.{mark, numbers_of, stored}
-use Rattle.memory.specs.Written.{headed}
+use Rattle.memory.specs.Written.{headed, headed_from}
+
+pub headed_from_long : (m : List ℕ) (place at : ℕ) (moving : Bool) (behind left : ℕ)
+    → length (headed_from m place at moving behind left) ≡ length m
+headed_from_long m place at moving behind left = simp length-set
 
 pub headed_long : (m : List ℕ) (i at : ℕ) (moving : Bool) (behind left : ℕ) → length (headed m i at moving behind left) ≡ length m
-headed_long m i at moving behind left = simp length-set
+headed_long m i at moving behind left = headed_from_long m (260 * i) at moving behind left
 
 headed_sets : (m : List ℕ) (i at : ℕ) (moving : Bool) (behind left : ℕ) (r : List ℕ)
     → sets m (260 * i) (at ∷ mark moving ∷ behind ∷ left ∷ r) ≡ sets (headed m i at moving behind left) (260 * i + 4) r

@@ -17,6 +17,7 @@ use Rattle.hall.proofs.Called.{refused_event}
 use Rattle.text.specs.declared.answers.Answer.{Answer}
 use Rattle.session.specs.Played.{numbers_of, memory_of, TakenBy, Taken, answer_number, Came}
 use Rattle.session.specs.declared.state.Session.{Session}
+use Rattle.session.proofs.Led.{led_field, led_memory}
 
 -- an event is the one of its kind, shuttle and route
 itself : (e : Event) → event_in (kind_of e) (who e) (route_of e) ≡ e
@@ -69,6 +70,18 @@ module _ (s : Session) (lent : FieldNumbers) (m left : List ℕ) (same : lent �
 
   pub came_on : (t : Session) (a : Result Answer Refusal) → numbers_of t ≡ numbers_of s → left ≡ memory_of t → number (done_of r) ≡ answer_number a → Came s t e a
   came_on t a stays is answer = record { same = stays; says = rw (is, answer) at says_on }
+
+-- of memory that calls have led to, whatever the numbers of the event are: what is turned away is turned away by 3
+pub says_led : (lent : FieldNumbers) (m : List ℕ) (kind i : ℕ) (route : List ℕ) (answer : ℕ) (left : List ℕ) → ∥ Reached lent m ∥₁
+    → Says (refusal lent m kind i route) (field_in lent) m (event_in kind i route) answer left
+    → Says (cond (event_ok (length lent.bays) kind i route) 0 3) (field_in lent) m (event_in kind i route) answer left
+says_led lent m kind i route answer left led says =
+    let by : (b : Bool) → event_ok (length lent.bays) kind i route ≡ b → refusal lent m kind i route ≡ cond b 0 3 = λ b is. by_test b is in
+    rw (by (event_ok (length lent.bays) kind i route) refl) at says
+  where
+    by_test : (b : Bool) → event_ok (length lent.bays) kind i route ≡ b → refusal lent m kind i route ≡ cond b 0 3
+    by_test true is = none_refusal lent m kind i route (led_field led) (led_memory led) is
+    by_test false is = refused_event lent m kind i route (led_field led) (led_memory led) is
 
 -- the numbers of answers
 pub number_granted : (done : Bool) → done ≡ true → number (done_of (Ok done)) ≡ 0
