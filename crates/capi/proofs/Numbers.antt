@@ -4,7 +4,7 @@ use Rattle.std.proofs.lemmas.Bool.Decides.{nat_tests}
 use Rattle.rules.specs.Field.{Field}
 use Rattle.rules.specs.Event.{Event}
 use Rattle.rules.specs.Memory.{FieldNumbers, refusal}
-use Rattle.calls.specs.Call.{Says, Answered}
+use Rattle.calls.specs.Call.{Says}
 use Rattle.hall.specs.Start.{start_refusal, StartLeft, StartSays}
 
 refusal_most : (lent : FieldNumbers) (m : List ℕ) (kind i : ℕ) (r : List ℕ) → refusal lent m kind i r ≤ 3
@@ -20,9 +20,6 @@ says_small (suc k) f m e n m₁ l s = omega (arith, s.0)
 pub call_small : (lent : FieldNumbers) (m : List ℕ) (kind i : ℕ) (r : List ℕ) (f : Field) (e : Event) (n : ℕ) (m₁ : List ℕ)
     → Says (refusal lent m kind i r) f m e n m₁ → n ≤ 255
 call_small lent m kind i r f e n m₁ s = says_small _ f m e n m₁ (refusal_most lent m kind i r) s
-
-pub answered_small : (lent : FieldNumbers) (m : List ℕ) (kind i : ℕ) (r : List ℕ) (n : ℕ) (m₁ : List ℕ) → Answered lent m kind i r n m₁ → n ≤ 255
-answered_small lent m kind i r n m₁ a = call_small lent m kind i r _ _ n m₁ a.says
 
 start_most : (lent : FieldNumbers) (m : List ℕ) → start_refusal lent m ≤ 3
 unfolding start_refusal

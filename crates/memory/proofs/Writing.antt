@@ -7,12 +7,8 @@ use Rattle.rules.specs.Shuttle.{Shuttle}
 use Rattle.rules.specs.Memory.{mark, numbers_of, stored}
 use Rattle.memory.specs.Written.{headed, headed_from}
 
-pub headed_from_long : (m : List ℕ) (place at : ℕ) (moving : Bool) (behind left : ℕ)
-    → length (headed_from m place at moving behind left) ≡ length m
-headed_from_long m place at moving behind left = simp length-set
-
-pub headed_long : (m : List ℕ) (i at : ℕ) (moving : Bool) (behind left : ℕ) → length (headed m i at moving behind left) ≡ length m
-headed_long m i at moving behind left = headed_from_long m (260 * i) at moving behind left
+pub headed_long : (m : List ℕ) (place at : ℕ) (moving : Bool) (behind left : ℕ) → length (headed_from m place at moving behind left) ≡ length m
+headed_long m place at moving behind left = simp length-set
 
 headed_sets : (m : List ℕ) (i at : ℕ) (moving : Bool) (behind left : ℕ) (r : List ℕ)
     → sets m (260 * i) (at ∷ mark moving ∷ behind ∷ left ∷ r) ≡ sets (headed m i at moving behind left) (260 * i + 4) r
@@ -26,7 +22,7 @@ pub stored_is : (m : List ℕ) (i : ℕ) (s : Shuttle) → 260 * i + 4 + length 
 unfolding stored numbers_of
 stored_is m i s l =
     let h = headed m i s.at s.moving s.behind (length s.route) in
-    let long = headed_long m i s.at s.moving s.behind (length s.route) in
+    let long = headed_long m (260 * i) s.at s.moving s.behind (length s.route) in
     sym (append_assoc (take (260 * i) m) (numbers_of s) _) ∙ sym (sets-eq (numbers_of s) m (260 * i) (omega arith))
     ∙ headed_sets m i s.at s.moving s.behind (length s.route) s.route
     ∙ sets-eq s.route h (260 * i + 4) (omega arith) ∙ append_assoc (take (260 * i + 4) h) s.route _

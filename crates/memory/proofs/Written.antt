@@ -86,7 +86,7 @@ module _ (m : List ℕ) (i : ℕ) (there : 260 * i + 260 ≤ length m) (room : g
       let s : Shuttle = record { at = next; moving = true; behind = at; route = cs } in
       let on : stepped (shuttle_in m i) ≡ s = ap (stepped_to (shuttle_in m i)) (left_cons m a left some (omega arith)) in
       let rest : length cs ≡ left - 1 = length-take (left - 1) (drop (a + 1) m) ∙ (let q = length-drop (a + 1) m in omega arith) in
-      let long : length h ≡ length m = ap length e ∙ headed_long m i next true at (left - 1) in
+      let long : length h ≡ length m = ap length e ∙ headed_long m (260 * i) next true at (left - 1) in
       let same : drop a h ≡ drop a m = ap (drop a) e ∙ after_head m i next true at (left - 1) in
       let tail : drop 1 (take left (drop a h)) ≡ cs = ap (λ t. drop 1 (take left t)) same ∙ ap (drop 1) (left_cons m a left some (omega arith)) in
       let as_head : h ≡ headed m i next true at (length cs) = e ∙ ap (headed m i next true at) (sym rest) in

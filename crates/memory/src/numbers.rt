@@ -1,4 +1,4 @@
-// The numbers of a shuttle that stand before what is left of its route, written one by one.
+// The four numbers of a shuttle, each given by itself, written from a place of memory on.
 ghost use Rattle.std.specs.Prelude.{◌≡◌, ◌+◌, ◌≤◌, length};
 ghost use Rattle.memory.specs.Written.{headed_from};
 

@@ -1,5 +1,6 @@
-// Writing a shuttle into memory, by its number. Start writes into memory that is not accepted yet; the others stand apart from
-// the methods of `Hall`, which show that memory stays accepted, so that each says one thing.
+// Writing a shuttle into memory, by its number or by the place at which its numbers begin. Start writes into memory that is not
+// accepted yet; the others stand apart from the methods of `Hall`, which show that memory stays accepted, so that each says one
+// thing.
 ghost use Rattle.std.specs.Prelude.{◌≡◌, ℕ, ◌+◌, ◌*◌, ◌≤◌, false, length, slice_index};
 ghost use Rattle.rules.specs.Field.{Field};
 ghost use Rattle.rules.specs.Shuttle.{at_home, ordered, stepped, arrived};
@@ -29,14 +30,6 @@ pub fn write_head_at(memory: &mut [u16], place: usize, head: Head)
     memory[place + LEFT] = head.left;
 }
 
-// Writes the four numbers of shuttle i.
-fn write_head(memory: &mut [u16], i: usize, head: Head)
-    requires { 260 * i + 4 ≤ length memory.old }
-    ensures { memory.new ≡ headed memory.old i head.at head.moving head.behind head.left }
-{
-    write_head_at(memory, NUMBERS * i, head);
-}
-
 // Writes the four numbers of shuttle i where it stands: its own square is behind it.
 fn write_standing(memory: &mut [u16], i: usize, at: u16, left: u16)
     requires { 260 * i + 4 ≤ length memory.old }
@@ -48,7 +41,7 @@ fn write_standing(memory: &mut [u16], i: usize, at: u16, left: u16)
         behind: at,
         left,
     };
-    write_head(memory, i, head);
+    write_head_at(memory, NUMBERS * i, head);
 }
 
 // Writes shuttle i at home in this bay, where it stands with nothing left.

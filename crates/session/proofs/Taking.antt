@@ -26,14 +26,16 @@ itself (order i r) = refl
 itself (step i) = refl
 itself (arrive i) = refl
 
-module _ (lent : FieldNumbers) (m : List ℕ) (ok : field_ok lent ≡ true) (kept : memory_ok lent m ≡ true) (e : Event) where
-  refused : (b : Bool) → accepts (length lent.bays) e ≡ b → refusal lent m (kind_of e) (who e) (route_of e) ≡ cond b 0 3
-  refused true is = none_refusal lent m (kind_of e) (who e) (route_of e) ok kept is
-  refused false is = refused_event lent m (kind_of e) (who e) (route_of e) ok kept is
+-- an event in memory that is accepted is turned away for its own sake alone
+refused : (lent : FieldNumbers) (m : List ℕ) → field_ok lent ≡ true → memory_ok lent m ≡ true → (kind i : ℕ) (r : List ℕ) (b : Bool)
+    → event_ok (length lent.bays) kind i r ≡ b → refusal lent m kind i r ≡ cond b 0 3
+refused lent m ok kept kind i r true is = none_refusal lent m kind i r ok kept is
+refused lent m ok kept kind i r false is = refused_event lent m kind i r ok kept is
 
+module _ (lent : FieldNumbers) (m : List ℕ) (ok : field_ok lent ≡ true) (kept : memory_ok lent m ≡ true) (e : Event) where
   stays : (n : ℕ) (left : List ℕ) → TakenBy lent m e n left → Reached lent m → Reached lent left
   stays n left says led =
-      let by = refused (accepts (length lent.bays) e) refl in
+      let by = refused lent m ok kept (kind_of e) (who e) (route_of e) (accepts (length lent.bays) e) refl in
       let here : Says (refusal lent m (kind_of e) (who e) (route_of e)) (field_in lent) m (event_in (kind_of e) (who e) (route_of e)) n left =
       rw (by, itself e) says in
       ((answered lent m (kind_of e) (who e) (route_of e) n left here).stays led).0
@@ -64,8 +66,7 @@ module _ (s : Session) (lent : FieldNumbers) (m left : List ℕ) (same : lent �
   pub led_on : ∥ Reached (numbers_of s) left ∥₁
   led_on = let on : Reached (numbers_of s) (memory_of s) → Reached (numbers_of s) left = rw (same, was) at taken.stays in ∥∥₁_map s.reached on
 
-  -- what it answers and leaves there
-  pub says_on : TakenBy (numbers_of s) (memory_of s) e (number (done_of r)) left
+  says_on : TakenBy (numbers_of s) (memory_of s) e (number (done_of r)) left
   says_on = rw (same, was) at taken.says
 
   pub came_on : (t : Session) (a : Result Answer Refusal) → numbers_of t ≡ numbers_of s → left ≡ memory_of t → number (done_of r) ≡ answer_number a → Came s t e a
@@ -76,12 +77,7 @@ pub says_led : (lent : FieldNumbers) (m : List ℕ) (kind i : ℕ) (route : List
     → Says (refusal lent m kind i route) (field_in lent) m (event_in kind i route) answer left
     → Says (cond (event_ok (length lent.bays) kind i route) 0 3) (field_in lent) m (event_in kind i route) answer left
 says_led lent m kind i route answer left led says =
-    let by : (b : Bool) → event_ok (length lent.bays) kind i route ≡ b → refusal lent m kind i route ≡ cond b 0 3 = λ b is. by_test b is in
-    rw (by (event_ok (length lent.bays) kind i route) refl) at says
-  where
-    by_test : (b : Bool) → event_ok (length lent.bays) kind i route ≡ b → refusal lent m kind i route ≡ cond b 0 3
-    by_test true is = none_refusal lent m kind i route (led_field led) (led_memory led) is
-    by_test false is = refused_event lent m kind i route (led_field led) (led_memory led) is
+    rw (refused lent m (led_field led) (led_memory led) kind i route (event_ok (length lent.bays) kind i route) refl) at says
 
 -- the numbers of answers
 pub number_granted : (done : Bool) → done ≡ true → number (done_of (Ok done)) ≡ 0

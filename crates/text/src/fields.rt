@@ -17,10 +17,10 @@ pub fn rows_in(lines: &[&[u8]]) -> usize
     ensures value { result ≡ row_count (pieces lines.now) }
     ensures bound { result ≤ length lines.now }
 {
-    match lines.iter().position(|line| line.is_empty()) {
-        Some(rows) => rows,
-        None => lines.len(),
-    }
+    lines
+        .iter()
+        .position(|line| line.is_empty())
+        .unwrap_or(lines.len())
 }
 
 // Whether it is the letter of a shuttle's bay: a to p.
@@ -37,7 +37,7 @@ fn is_field_sign(sign: u8) -> bool
 }
 
 // Whether it is a sign of a field, and no letter that stood before it, in the rows before or in its own. Only a letter is looked
-// for among those before it, so that a field is read in one pass.
+// for among those before it, so that the time to read a field grows with its signs and not with their square.
 fn sign_follows(before: &[u8], row: &[u8], sign: u8) -> bool
     ensures { result ≡ sign_fits (before.now ++ row.now) sign }
 {
